@@ -1,37 +1,32 @@
-ghost use Rattle.std.specs.Prelude.{◌≡◌, ◌≢◌, ◌-◌, ◌+◌, ◌<◌, ◌≤◌, [], ◌∷◌, true, false, IfErr, IfOk, IfSome, IsSome, OnErr, OnOk, drop, is_some, length, nat_le, option_map, slice_get, unwrap_or};
+ghost use Rattle.std.specs.Prelude.{◌≡◌, ◌≢◌, ◌-◌, ◌+◌, ◌<◌, ◌≤◌, [], false, IfErr, IfOk, IfSome, IsSome, OnErr, OnOk, drop, is_some, option_map, slice_get, unwrap_or};
 ghost use Rattle.std.specs.Arc.{arc_value};
 ghost use Rattle.std.specs.Option.{option_copied};
 ghost use Rattle.apl_arrays.specs.List.{glyphs_in};
 ghost use Rattle.apl_items.specs.Places.{OnWantOfMemory};
 ghost use Rattle.line_trees.specs.Trees.{line_tree_of};
-ghost use Rattle.apl_workspace.specs.Limits.{most_depth};
-ghost use Rattle.apl_workspace.specs.Workspace.{IsNotEntered, empty_workspace, look, with_frame};
 ghost use Rattle.apl_arrays.specs.declared.report.Report.TheVariants as report;
-ghost use Rattle.apl_meaning.specs.Calls.{call, entering, result_of};
+ghost use Rattle.apl_meaning.specs.Calls.{result_of};
 ghost use Rattle.apl_meaning.specs.Meaning.{ran};
 ghost use Rattle.apl_meaning.specs.Reading.{read_with};
 ghost use Rattle.apl_meaning.specs.Statements.{is_misplaced, line_outcome, text_outcome};
 ghost use Rattle.apl_meaning.specs.Tasks.{begun, immediate, in_function, text_at};
 ghost use Rattle.apl_values.specs.Places.{plain_place};
 ghost use Rattle.apl_values.specs.Parts.{IsNotRead, IsReadFrom, IsLineReading, reading_statement, reading_tree};
-ghost use Rattle.apl_statements.specs.Evaluating.{caller_of, evaluation_of, function_by, innermost_function, line_of_innermost, plain_next, plain_purpose, purpose_in, takes_by};
-ghost use Rattle.apl_statements.specs.Interpreter.{here};
-ghost use Rattle.apl_statements.specs.Moves.{Comes, HasDone, Moves, part_gives, statement_leads};
-ghost use Rattle.apl_statements.specs.Sound.{IsCaller, IsEvaluation, IsFlow};
-ghost use Rattle.apl_statements.specs.Stack.{at_line, behind, from_end, from_line, onward};
-ghost use Rattle.apl_statements.specs.Work.{IsAfresh, StaysWithin, caller_parts, flow_work, machine_work, parts_left};
+ghost use Rattle.apl_statements.specs.Evaluating.{evaluation_of, innermost_function, line_of_innermost, plain_next, plain_purpose, purpose_in};
+ghost use Rattle.apl_statements.specs.Moves.{Comes, Moves, statement_leads};
+ghost use Rattle.apl_statements.specs.Sound.{IsEvaluation, IsFlow};
+ghost use Rattle.apl_statements.specs.Stack.{behind, from_end, from_line, onward};
+ghost use Rattle.apl_statements.specs.Work.{IsAfresh, caller_parts, flow_work, machine_work, parts_left};
 ghost use Rattle.apl_statements.specs.declared.flow.Flow.TheVariants as flow;
 ghost use Rattle.apl_calls.specs.Ended.{line_behind};
 ghost use Rattle.apl_calls.specs.Waitings.{standing_on};
 
 use crate::seen::{following, takes, value_seen};
-use crate::waiting::{
-    function_of, has_reading, header_of, keep, line_numbered, make_room, stand_at,
-};
-use apl_arrays::{Array, Fail, Line, Name, Report, WantOfMemory};
-use apl_statements::{Evaluation, Flow, Interpreter, Next, Purpose, Waiting};
+use crate::waiting::{function_of, has_reading, header_of, keep, line_numbered, stand_at};
+use apl_arrays::{Array, Fail, Line, Report, WantOfMemory};
+use apl_statements::{Evaluation, Flow, Interpreter, Next, Purpose};
 use apl_values::{KnownLine, LineReading, Place, StackValue, read};
-use apl_workspace::{Args, DEPTH_LIMIT, Function};
+use apl_workspace::Function;
 use line_trees::Form;
 use std::alloc::Global;
 use std::sync::Arc;
@@ -117,72 +112,6 @@ fn begin_reading(
     }
 }
 
-/// Enters a function, and begins its first line; where it has none it is left at once. SYNTAX ERROR where the name is no
-/// function of these arguments, else WS FULL where 100 functions are under way, each also where there is no memory; or WS FULL
-/// where its frame would weigh too much.
-pub fn call(
-    interpreter: &mut Interpreter,
-    caller: Evaluation,
-    name: Name,
-    args: Args,
-) -> Result<Flow, Fail>
-    requires sound { IsCaller interpreter.old.workspace caller }
-    ensures comes { Comes interpreter.old (part_gives interpreter.old caller (λ s. call ran name args s)) 0 interpreter.new result }
-    ensures memory { OnWantOfMemory result ((takes_by (look interpreter.old.workspace name) args ≡ true) × (length interpreter.old.workspace.frames < most_depth)) }
-    ensures sound { IfOk result (IsFlow interpreter.new) }
-    ensures within { IfOk result (StaysWithin interpreter.old caller interpreter.new) }
-{
-    let mut caller = caller;
-    if !takes(interpreter.workspace.look(&name), &args) {
-        return Err(Fail::Report(Report::Syntax));
-    }
-    if is_too_deep(interpreter) {
-        return Err(Fail::Report(Report::WsFull));
-    }
-    caller.settle(interpreter.alloc, &interpreter.workspace)?;
-    enter(interpreter, caller, name, args)?;
-    if has_line(interpreter, 1) {
-        begin_line(interpreter, 1)
-    } else {
-        Ok(Flow::Evaluates(leave(interpreter)?))
-    }
-}
-
-// Whether as many functions are under way as may be.
-fn is_too_deep(interpreter: &Interpreter) -> bool
-    ensures { result ≡ nat_le most_depth (length interpreter.now.workspace.frames) }
-{
-    interpreter.workspace.depth() >= DEPTH_LIMIT
-}
-
-// A function has its frame, and its caller waits under it. WS FULL where the workspace would weigh too much with the frame,
-// for which memory is taken first. There is room for the caller before there is a frame.
-fn enter(
-    interpreter: &mut Interpreter,
-    caller: Evaluation,
-    name: Name,
-    args: Args,
-) -> Result<(), Fail>
-    requires settled { IsCaller empty_workspace caller }
-    requires takes { takes_by (look interpreter.old.workspace name) args ≡ true }
-    requires shallow { length interpreter.old.workspace.frames < most_depth }
-    ensures done { HasDone interpreter.old (λ s. entering name args s) interpreter.new result }
-    ensures refused { IfErr result (IsNotEntered interpreter.old.workspace (with_frame interpreter.old.workspace name args)) }
-    ensures stack { OnOk result (interpreter.new.stack ≡ at_line (function_by (look interpreter.old.workspace name)) 0 (caller_of empty_workspace (here interpreter.old) caller) ∷ interpreter.old.stack) }
-    ensures beside { OnOk result (interpreter.new ≡ record interpreter.old { workspace = interpreter.new.workspace; stack = interpreter.new.stack }) }
-{
-    interpreter.rules();
-    make_room(&mut interpreter.callers)?;
-    interpreter.workspace.push_frame(&name, args)?;
-    interpreter.callers.push_reserved(Waiting {
-        name,
-        number: 0,
-        readings: Vec::new(interpreter.alloc),
-        caller,
-    });
-    Ok(())
-}
-
 /// A statement led somewhere: the line is over, or a line of the function under way follows, or the function is left.
 /// INTERRUPT where a line follows and no statement may be begun, also where there is no memory.
 pub fn follow(interpreter: &mut Interpreter, next: Next) -> Result<Flow, Fail>
@@ -201,8 +130,8 @@ pub fn follow(interpreter: &mut Interpreter, next: Next) -> Result<Flow, Fail>
     }
 }
 
-// Begins a line of the function under way, or leaves it where it has no line of this number.
-fn begin_line(interpreter: &mut Interpreter, number: usize) -> Result<Flow, Fail>
+/// Begins a line of the function under way, or leaves it where it has no line of this number.
+pub fn begin_line(interpreter: &mut Interpreter, number: usize) -> Result<Flow, Fail>
     requires some { interpreter.old.stack ≢ [] }
     ensures comes { Comes interpreter.old (from_line interpreter.old.stack number) 0 interpreter.new result }
     ensures memory { IsSome (line_of_innermost interpreter.old.stack number) → OnWantOfMemory result (0 < interpreter.old.statements) }
@@ -240,8 +169,8 @@ fn begin_text_of_line(interpreter: &mut Interpreter, number: usize) -> Result<Fl
     begin_reading(interpreter, room, Place::InFunction, reading)
 }
 
-// Whether the function under way has a line of this number. A line whose reading is kept is there.
-fn has_line(interpreter: &Interpreter, number: usize) -> bool
+/// Whether the function under way has a line of this number. A line whose reading is kept is there.
+pub fn has_line(interpreter: &Interpreter, number: usize) -> bool
     ensures { result ≡ is_some (line_of_innermost interpreter.now.stack number) }
 {
     keeps_line(interpreter, number) || line_under_way(interpreter, number).is_some()
@@ -362,8 +291,8 @@ fn keep_reading(
     }
 }
 
-// Leaves the function under way with its result, and the statement that called it goes on.
-fn leave(interpreter: &mut Interpreter) -> Result<Evaluation, WantOfMemory>
+/// Leaves the function under way with its result, and the statement that called it goes on.
+pub fn leave(interpreter: &mut Interpreter) -> Result<Evaluation, WantOfMemory>
     requires some { interpreter.old.stack ≢ [] }
     ensures comes { IfOk result (λ e. Moves interpreter.old (from_end interpreter.old.stack) 0 interpreter.new (λ s. onward (evaluation_of interpreter.new.workspace e) interpreter.new.stack s)) }
     ensures sound { IfOk result (IsEvaluation interpreter.new.workspace) }

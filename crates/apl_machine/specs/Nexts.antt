@@ -28,7 +28,7 @@ pub record IsNextStackValue (m : PlainInterpreter) (e : Evaluation) (held : Stac
 -- what a name stands for takes a value; where items of it are replaced, it stands for something
 abbrev pub MayBeAssigned : Bool → Meaning → Type 0
 MayBeAssigned false seen = is_assignable seen ≡ true
-MayBeAssigned true seen = seen ≢ meaning.Nothing
+MayBeAssigned true seen = (seen ≢ meaning.Nothing) × (is_assignable seen ≡ true)
 
 -- a part was done, or the statement is as it was
 abbrev pub HasPassed : Evaluation → Evaluation → Bool → Type 0

@@ -1,7 +1,0 @@
-use Rattle.std.proofs.Common.{◌≡◌, take}
-use Rattle.std.specs.Prelude.{map, pos}
-use Rattle.apl_answers.proofs.lists.list_parties.Given as goal
-
--- the parties so far
-abbrev pub invariant-loop-party : goal.invariant-loop-party
-invariant-loop-party l = l.numbers.items ≡ map (λ party. pos party) (take l.party-index l.parties)
