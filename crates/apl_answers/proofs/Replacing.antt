@@ -94,15 +94,15 @@ not_below : (a b : ℕ) → nat_lt a b ≡ false → b ≤ a
 not_below a b e = grind (arith, nat_tests)
 
 code_refused : (seen : Meaning) (name : List ℕ) (subs : List (Option PlainArray)) (right : PlainArray) (s : State) → is_assignable seen ≡ false → items_where seen name subs right s ≡ refuses Syntax s
-code_refused meaning.Nothing name subs right s no = absurd (false≢true (sym no))
-code_refused (meaning.Value value) name subs right s no = absurd (false≢true (sym no))
-code_refused (meaning.Function function) name subs right s no = refl
-code_refused (meaning.Label line) name subs right s no = refl
-code_refused (meaning.Shared copy) name subs right s no = absurd (false≢true (sym no))
+code_refused meaning.Nothing name subs right s code = absurd (false≢true (sym code))
+code_refused (meaning.Value value) name subs right s code = absurd (false≢true (sym code))
+code_refused (meaning.Function function) name subs right s code = refl
+code_refused (meaning.Label line) name subs right s code = refl
+code_refused (meaning.Shared copy) name subs right s code = absurd (false≢true (sym code))
 
 step_of_code : (name : List ℕ) (subs : List (Option PlainArray)) (values : List PlainArray) (s : State) → is_assignable (look s.workspace name) ≡ false → 0 < length values → items_step name subs values s ≡ refuses Syntax s
-step_of_code name subs [] s no some = absurd (omega (arith, some))
-step_of_code name subs (right ∷ values) s no some = ap (λ (o : Outcome Found). leaving_values values o) (code_refused (look s.workspace name) name subs right s no)
+step_of_code name subs [] s code some = absurd (omega (arith, some))
+step_of_code name subs (right ∷ values) s code some = ap (λ (o : Outcome Found). leaving_values values o) (code_refused (look s.workspace name) name subs right s code)
 
 step_of_none : (name : List ℕ) (subs : List (Option PlainArray)) (values : List PlainArray) (s : State) → length values ≡ 0 → items_step name subs values s ≡ refuses Value s
 step_of_none name subs [] s none = refl
@@ -126,11 +126,11 @@ popped_length (Some k ∷ places) (v ∷ values) =
 
 step_by_count : (name : List ℕ) (places : List (Option ℕ)) (all : List PlainArray) (s : State) (b : Bool) → is_assignable (look s.workspace name) ≡ false → nat_lt (count_by is_some places) (length all) ≡ b
     → items_step name (popped places all).subs (popped places all).values s ≡ refuses (if b then Syntax else Value) s
-step_by_count name places all s true no is =
+step_by_count name places all s true code is =
     let more : count_by is_some places < length all = below (count_by is_some places) (length all) is in
     let left : length (popped places all).values ≡ length all - count_by is_some places = popped_length places all in
-    step_of_code name (popped places all).subs (popped places all).values s no (omega (arith, more, left))
-step_by_count name places all s false no is =
+    step_of_code name (popped places all).subs (popped places all).values s code (omega (arith, more, left))
+step_by_count name places all s false code is =
     let few : length all ≤ count_by is_some places = not_below (count_by is_some places) (length all) is in
     let left : length (popped places all).values ≡ length all - count_by is_some places = popped_length places all in
     step_of_none name (popped places all).subs (popped places all).values s (omega (arith, few, left))
@@ -138,14 +138,14 @@ step_by_count name places all s false no is =
 -- the line ends, by SYNTAX ERROR where there is a right side
 pub items_of_code : (m : PlainInterpreter) (e : Evaluation) (name : List ℕ) (places : List (Option ℕ)) (why : Report) → is_assignable (look m.workspace name) ≡ false → why ≡ (if nat_lt (count_by is_some places) (length e.values.items) then Syntax else Value)
     → Comes m (part_takes m e (λ values. items_step name (popped places values).subs (popped places values).values)) 0 m (Err (fail.Report why))
-items_of_code m e name places why no is =
+items_of_code m e name places why code is =
     let all : List PlainArray = stack_values m.workspace e in
     let many : length e.values.items ≡ length all = sym (length-reverse (map (stack_value m.workspace (parts_of e)) e.values.items) ∙ length-map e.values.items (stack_value m.workspace (parts_of e))) in
     let same : why ≡ (if nat_lt (count_by is_some places) (length all) then Syntax else Value) = is ∙ ap (λ (n : ℕ). if nat_lt (count_by is_some places) n then Syntax else Value) many in
     at_once m (part_takes m e (λ values. items_step name (popped places values).subs (popped places values).values)) (λ s. refuses why s) (λ asked count taken further.
     let s : State = state_at m asked count taken further in
     ap (λ (o : Outcome Values). and_then o (λ values t. onward (record (evaluation_of m.workspace e) { values = values }) m.stack t))
-    (step_by_count name places all s (nat_lt (count_by is_some places) (length all)) no refl)
+    (step_by_count name places all s (nat_lt (count_by is_some places) (length all)) code refl)
     ∙ ap (λ (r : Report). refuses r s) (sym same))
 
 -- a name that has a value, or is shared, takes items
