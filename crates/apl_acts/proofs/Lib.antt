@@ -1,4 +1,5 @@
 pub mod AloneLaw
+pub mod Asked
 pub mod Controlled
 pub mod HeardLaw
 pub mod Offered

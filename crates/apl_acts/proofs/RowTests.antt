@@ -1,34 +1,26 @@
 -- Names that are tested row by row, and what is told where there is no memory for them.
 use Rattle.std.proofs.Common.{◌≡◌, ℕ, ◌+◌, ◌<◌, Bool, true, false, List, [], ◌∷◌, take, get_or, refl, sym, ap, subst, ◌∙◌, arith}
 use Rattle.std.specs.Prelude.{◌||◌, Option, Some, None, Err, IfSome, map}
-use Rattle.std.specs.List.{cons_option, filter_map, list_any, zip}
+use Rattle.std.specs.List.{cons_option, filter_map, list_any}
 use Rattle.std.specs.Option.{option_to_list}
 use Rattle.std.proofs.lemmas.List.{take_all, take_more}
 use Rattle.std.proofs.lemmas.List.Folds.{list_any-append, list_any_at}
-use Rattle.apl_arrays.specs.Array.{PlainArray, number_array}
+use Rattle.apl_arrays.specs.Array.{PlainArray}
 use Rattle.apl_arrays.specs.declared.report.Fail.{Fail}
 use Rattle.apl_arrays.specs.declared.report.Fail.TheVariants as fail
 use Rattle.apl_arrays.specs.declared.report.Report.{Report}
 use Rattle.apl_items.specs.Answers.{first_report}
-use Rattle.apl_items.specs.Places.{OnWantOfMemory, places}
-use Rattle.apl_selection.proofs.WantLemmas.{on_want}
+use Rattle.apl_items.specs.Places.{places}
 use Rattle.apl_workspace.specs.Workspace.{PlainWorkspace}
-use Rattle.apl_meaning.specs.Deeds.{Deed, done_for_all, offer}
-use Rattle.apl_meaning.specs.Expressions.{valued}
-use Rattle.apl_meaning.specs.Naming.{naming_count, naming_in, namings_of, result_shape, rows_of}
-use Rattle.apl_meaning.specs.Sharing.{addressee_at, cannot_be_offered, offer_faults, offers, unless_wrong}
-use Rattle.apl_meaning.specs.State.{gives, refuses, and_then}
+use Rattle.apl_meaning.specs.Deeds.{Deed, offer}
+use Rattle.apl_meaning.specs.Naming.{naming_count, naming_in, namings_of, rows_of}
+use Rattle.apl_meaning.specs.Sharing.{addressee_at, cannot_be_offered, offer_faults, offers}
 use Rattle.apl_values.proofs.NamingSteps.{rows_count}
-use Rattle.apl_statements.specs.declared.evaluation.Evaluation.{Evaluation}
-use Rattle.apl_statements.specs.declared.flow.Flow.{Flow}
-use Rattle.apl_statements.specs.Evaluating.{caller_of}
-use Rattle.apl_statements.specs.Interpreter.{PlainInterpreter, here, state_at}
-use Rattle.apl_statements.specs.Moves.{Comes, part_gives}
-use Rattle.apl_statements.specs.Stack.{carried_on}
+use Rattle.apl_statements.specs.Interpreter.{PlainInterpreter}
 use Rattle.apl_statements.specs.Wants.{NoReportIsDue}
-use Rattle.apl_statements.proofs.Same.{at_once}
+use Rattle.apl_acts.specs.Asking.{Asks}
 use Rattle.apl_acts.specs.Faults.{is_not_offered}
-use Rattle.apl_acts.proofs.Tested.{free_there}
+use Rattle.apl_acts.proofs.Tested.{asks_refused, free_there}
 
 -- ---- tests
 
@@ -70,26 +62,17 @@ none_of_rows w n row all e =
 abbrev pub offer_deeds : PlainArray → PlainArray → List Deed
 offer_deeds p n = map (λ row. offer (addressee_at p row)) (places (naming_count n))
 
-offer_refuses : (m : PlainInterpreter) (e : Evaluation) (p n : PlainArray) (why : Fail) (found : Option Report) → first_report (offer_faults m.workspace p n) ≡ found → IfSome found (λ report. why ≡ fail.Report report) → (found ≡ None → why ≡ fail.WantOfMemory)
-    → Comes m (part_gives m e (λ s. valued (offers p n s))) 0 m (Err why)
-offer_refuses m e p n why None is some none = subst (λ (f : Fail). Comes m (part_gives m e (λ s. valued (offers p n s))) 0 m (Err f)) (sym (none refl)) tt
-offer_refuses m e p n why (Some report) is some none =
-    subst (λ (f : Fail). Comes m (part_gives m e (λ s. valued (offers p n s))) 0 m (Err f)) (sym some)
-    (at_once m (part_gives m e (λ s. valued (offers p n s))) (λ s. refuses report s) (λ asked count taken further.
-    ap (λ (o : Option Report). carried_on (valued (unless_wrong o (λ s. and_then (done_for_all (zip (namings_of n) (offer_deeds p n)) s) (λ numbers s. gives (number_array (result_shape n []) numbers) s)) (state_at m asked count taken further))) (caller_of m.workspace (here m) e) m.stack) is))
-
--- an offer ends the line by its report, or memory ran out
-pub not_offered : (m : PlainInterpreter) (e : Evaluation) (p n : PlainArray) (why : Fail) → IfSome (first_report (offer_faults m.workspace p n)) (λ report. why ≡ fail.Report report) → (first_report (offer_faults m.workspace p n) ≡ None → why ≡ fail.WantOfMemory)
-    → Comes m (part_gives m e (λ s. valued (offers p n s))) 0 m (Err why)
-not_offered m e p n why some none = offer_refuses m e p n why (first_report (offer_faults m.workspace p n)) refl some none
-
 -- where nothing is wrong no report is due
 pub offer_free : (m : PlainInterpreter) (p n : PlainArray) → first_report (offer_faults m.workspace p n) ≡ None → NoReportIsDue m (offers p n)
 offer_free m p n none = free_there m (offers p n) (offer_faults m.workspace p n) n [] (offer_deeds p n) (λ asked count taken further. refl) none
 
-offer_wants : (m : PlainInterpreter) (p n : PlainArray) (why : Fail) (found : Option Report) → first_report (offer_faults m.workspace p n) ≡ found → IfSome found (λ report. why ≡ fail.Report report) → OnWantOfMemory {T = Flow} (Err why) (NoReportIsDue m (offers p n))
-offer_wants m p n why None is some = on_want {T = Flow} (Err why) (NoReportIsDue m (offers p n)) (offer_free m p n is)
-offer_wants m p n why (Some report) is some = subst (λ (f : Fail). OnWantOfMemory {T = Flow} (Err f) (NoReportIsDue m (offers p n))) (sym some) tt
+not_offered_by : (m : PlainInterpreter) (p n : PlainArray) (why : Fail) (found : Option Report) → first_report (offer_faults m.workspace p n) ≡ found → IfSome found (λ report. why ≡ fail.Report report) → (found ≡ None → why ≡ fail.WantOfMemory) → Asks m (offers p n) (Err why)
+not_offered_by m p n why None is some none = subst (λ (f : Fail). Asks m (offers p n) (Err f)) (sym (none refl)) (offer_free m p n is)
+not_offered_by m p n why (Some report) is some none =
+    subst (λ (f : Fail). Asks m (offers p n) (Err f)) (sym some)
+    (asks_refused m (offers p n) (offer_faults m.workspace p n) n [] (offer_deeds p n) report (λ asked count taken further. refl) is)
 
-pub not_offered_wants : (m : PlainInterpreter) (p n : PlainArray) (why : Fail) → IfSome (first_report (offer_faults m.workspace p n)) (λ report. why ≡ fail.Report report) → OnWantOfMemory {T = Flow} (Err why) (NoReportIsDue m (offers p n))
-not_offered_wants m p n why some = offer_wants m p n why (first_report (offer_faults m.workspace p n)) refl some
+-- an offer ends the line by its report, or memory ran out
+pub not_offered : (m : PlainInterpreter) (p n : PlainArray) (why : Fail) → IfSome (first_report (offer_faults m.workspace p n)) (λ report. why ≡ fail.Report report) → (first_report (offer_faults m.workspace p n) ≡ None → why ≡ fail.WantOfMemory)
+    → Asks m (offers p n) (Err why)
+not_offered m p n why some none = not_offered_by m p n why (first_report (offer_faults m.workspace p n)) refl some none

@@ -1,6 +1,6 @@
 -- Rows of names that are tested before the first act, and done where nothing is wrong.
 use Rattle.std.proofs.Common.{◌≡◌, ℕ, zero, suc, ◌+◌, ◌*◌, ◌<◌, Bool, true, false, List, [], ◌∷◌, length, refl, sym, ap, subst, ◌∙◌, arith}
-use Rattle.std.specs.Prelude.{◌||◌, Option, Some, None, Result, All, is_none, map, slice_index_or, if◌then◌else◌}
+use Rattle.std.specs.Prelude.{◌||◌, Option, Some, None, Result, Ok, Err, IfErr, IfOk, All, is_none, map, slice_index_or, if◌then◌else◌}
 use Rattle.std.specs.List.{cons_option, filter_map, list_any, range_with_len, zip}
 use Rattle.std.proofs.lemmas.Bool.{false≢true, or_parts}
 use Rattle.std.proofs.Math.Nat.{suc-mul}
@@ -8,6 +8,7 @@ use Rattle.std.proofs.lemmas.List.Elements.{All-cons, All-head, All-map, All-tai
 use Rattle.std.proofs.lemmas.List.Sums.{sum_by-cons}
 use Rattle.apl_arrays.specs.Array.{PlainArray, element_count, number_array}
 use Rattle.apl_arrays.specs.declared.report.Fail.{Fail}
+use Rattle.apl_arrays.specs.declared.report.Fail.TheVariants as fail
 use Rattle.apl_arrays.specs.declared.report.Report.{Report}
 use Rattle.apl_arrays.specs.declared.report.Report.TheVariants.{Domain, Index, Length, Rank, WsFull}
 use Rattle.apl_items.specs.Answers.{Faults, first_report}
@@ -23,16 +24,12 @@ use Rattle.apl_meaning.specs.Sharing.{rows_outcome, unless_wrong}
 use Rattle.apl_meaning.specs.State.{State, Outcome, gives, refuses, asks, and_then}
 use Rattle.apl_values.specs.Rows.{MayBeDone, PlainNameRow, RowMayBeDone, count_told, is_offer, rest_of_rows, row_zeros}
 use Rattle.apl_values.proofs.NamingSteps.{is_unnamed, rows_count}
-use Rattle.apl_statements.specs.declared.evaluation.Evaluation.{Evaluation}
-use Rattle.apl_statements.specs.declared.flow.Flow.{Flow}
-use Rattle.apl_statements.specs.Evaluating.{caller_of}
-use Rattle.apl_statements.specs.Interpreter.{PlainInterpreter, here, state_at}
-use Rattle.apl_statements.specs.Moves.{Comes, part_gives}
-use Rattle.apl_statements.specs.Stack.{carried_on}
-use Rattle.apl_statements.proofs.Same.{comes_as}
+use Rattle.apl_statements.specs.Interpreter.{PlainInterpreter, state_at}
 use Rattle.apl_statements.specs.Wants.{IsNoReport, NoReportIsDue}
 use Rattle.apl_statements.proofs.Steps.{grouped}
 use Rattle.apl_statements.proofs.Wants.{rows_no_report}
+use Rattle.apl_acts.specs.declared.asking.Asking.{Asking}
+use Rattle.apl_acts.specs.Asking.{Asks, asked_part}
 
 -- ---- nothing is wrong
 
@@ -145,17 +142,33 @@ abbrev pub IsTested : PlainInterpreter → (State → Outcome PlainArray) → Fa
 IsTested m part faults n each deeds =
     (asked : List Act) (count : ℕ) (taken : List (List ℕ)) (further : List PlainAnswer) → part (state_at m asked count taken further) ≡ rows_outcome faults n each deeds (state_at m asked count taken further)
 
-pub done_there : (m : PlainInterpreter) (e : Evaluation) (part : State → Outcome PlainArray) (faults : Faults) (n : PlainArray) (each : List ℕ) (deeds : List Deed) (rows : List PlainNameRow) (r : Result Flow Fail)
-    → IsTested m part faults n each deeds → first_report faults ≡ None → zip (namings_of n) deeds ≡ rows → Comes m (part_gives m e (rest_of_rows [] rows (result_shape n each))) 0 m r
-    → Comes m (part_gives m e (λ s. valued (part s))) 0 m r
-done_there m e part faults n each deeds rows r tested none are comes =
-    comes_as m m (part_gives m e (λ s. valued (part s))) (part_gives m e (rest_of_rows [] rows (result_shape n each))) 0 r (λ asked count taken further.
-    ap (λ (found : Outcome PlainArray). carried_on (valued found) (caller_of m.workspace (here m) e) m.stack) (tested asked count taken further)
-    ∙ ap (λ (found : Outcome Found). carried_on found (caller_of m.workspace (here m) e) m.stack) (rows_done faults n each deeds rows (state_at m asked count taken further) none are)) comes
-
+-- where nothing is wrong no report is due
 pub free_there : (m : PlainInterpreter) (part : State → Outcome PlainArray) (faults : Faults) (n : PlainArray) (each : List ℕ) (deeds : List Deed) → IsTested m part faults n each deeds → first_report faults ≡ None → NoReportIsDue m part
 free_there m part faults n each deeds tested none asked count taken =
     subst (λ (o : Outcome PlainArray). IsNoReport o) (sym (tested asked count taken [])) (rows_free faults n each deeds (state_at m asked count taken []) none refl)
+
+-- ---- what is asked
+
+-- something is wrong
+pub asks_refused : (m : PlainInterpreter) (part : State → Outcome PlainArray) (faults : Faults) (n : PlainArray) (each : List ℕ) (deeds : List Deed) (why : Report) → IsTested m part faults n each deeds → first_report faults ≡ Some why → Asks m part (Err (fail.Report why))
+asks_refused m part faults n each deeds why tested is = λ acts count taken further.
+    tested acts count taken further
+    ∙ ap (λ (r : Option Report). unless_wrong r (λ s. and_then (done_for_all (zip (namings_of n) deeds) s) (λ numbers s. gives (number_array (result_shape n each) numbers) s)) (state_at m acts count taken further)) is
+
+-- nothing is wrong, and rows are asked, or there is no memory for them
+pub asks_rows : (m : PlainInterpreter) (part : State → Outcome PlainArray) (faults : Faults) (n : PlainArray) (each : List ℕ) (deeds : List Deed) (rows : List PlainNameRow) (r : Result Asking Fail)
+    → IsTested m part faults n each deeds → first_report faults ≡ None → zip (namings_of n) deeds ≡ rows
+    → IfOk r (λ what. (s : State) → asked_part what s ≡ rest_of_rows [] rows (result_shape n each) s) → IfErr r (λ why. why ≡ fail.WantOfMemory) → Asks m part r
+asks_rows m part faults n each deeds rows (Ok what) tested none are asked refused = λ acts count taken further.
+    ap (λ (o : Outcome PlainArray). valued o) (tested acts count taken further)
+    ∙ rows_done faults n each deeds rows (state_at m acts count taken further) none are
+    ∙ sym (asked (state_at m acts count taken further))
+asks_rows m part faults n each deeds rows (Err (fail.Report report)) tested none are asked refused = absurd (let no : fail.Report report ≡ fail.WantOfMemory = refused in cc)
+asks_rows m part faults n each deeds rows (Err fail.WantOfMemory) tested none are asked refused = free_there m part faults n each deeds tested none
+
+-- what a `?` hands out is why a call failed
+pub asks_exit : (m : PlainInterpreter) (part : State → Outcome PlainArray) (r : Result Asking Fail) (y why : Fail) → r ≡ Err y → y ≡ why → Asks m part (Err why) → Asks m part r
+asks_exit m part r y why exit same asks = subst (λ (x : Result Asking Fail). Asks m part x) (sym exit) (subst (λ (w : Fail). Asks m part (Err w)) (sym same) asks)
 
 -- ---- rows that may be done
 

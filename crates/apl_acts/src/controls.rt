@@ -1,36 +1,29 @@
 ghost use Rattle.std.specs.Cmp.Lexicographic.{pointwise};
 ghost use Rattle.std.specs.List.{list_any};
 ghost use Rattle.std.specs.Prelude.{◌≡◌, ◌<◌, ◌+◌, ◌==◌, ◌∷◌, [], IfOk, map, length, not};
-ghost use Rattle.apl_items.specs.Places.{OnWantOfMemory};
-ghost use Rattle.apl_meaning.specs.Expressions.{valued};
 ghost use Rattle.apl_meaning.specs.Sharing.{are_controls, control_faults, controls};
 ghost use Rattle.apl_scalar.specs.Table.{is_truth};
 ghost use Rattle.apl_values.specs.Rows.{plain_naming, plain_name_row};
-ghost use Rattle.apl_statements.specs.Moves.{Comes, part_gives};
-ghost use Rattle.apl_statements.specs.Sound.{IsCaller, IsFlow};
-ghost use Rattle.apl_statements.specs.Wants.{NoReportIsDue};
-ghost use Rattle.apl_statements.specs.Work.{StaysWithin};
+ghost use Rattle.apl_acts.specs.Asking.{Asks, MayBeAsked};
 ghost use Rattle.apl_acts.specs.Faults.{AreElements, control_in, element_in, plain_faults, settings_of};
 
-use crate::sharing::{Wrong, do_rows, naming_wrong, refuse};
+use crate::asking::{Asking, rows_asked};
+use crate::sharing::{Wrong, naming_wrong, refuse};
 use apl_arrays::{Array, Fail, WantOfMemory};
-use apl_statements::{Evaluation, Flow, Interpreter};
+use apl_statements::Interpreter;
 use apl_values::{Deed, NameRow, Naming, naming_count, namings_of};
 use std::alloc::Global;
 use sv_access::Control;
 
 /// C ⎕SVC N: each row's control is set, and the result is the one in force. A report comes also where there is no memory.
-pub fn control(interpreter: &Interpreter, e: Evaluation, c: &Array, n: &Array) -> Result<Flow, Fail>
-    requires sound { IsCaller interpreter.now.workspace e }
-    ensures comes { Comes interpreter.now (part_gives interpreter.now e (λ s. valued (controls c.now n.now s))) 0 interpreter.now result }
-    ensures memory { OnWantOfMemory result (NoReportIsDue interpreter.now (controls c.now n.now)) }
-    ensures sound { IfOk result (IsFlow interpreter.now) }
-    ensures within { IfOk result (StaysWithin interpreter.now e interpreter.now) }
+pub fn control(interpreter: &Interpreter, c: &Array, n: &Array) -> Result<Asking, Fail>
+    ensures may { IfOk result (MayBeAsked interpreter.now.workspace) }
+    ensures asks { Asks interpreter.now (controls c.now n.now) result }
 {
     refuse(control_wrong(c, n))?;
     let namings = namings_of(interpreter.alloc, n)?;
     let rows = settings(interpreter.alloc, c.items().numbers(), namings)?;
-    do_rows(interpreter, e, rows, n, &[4])
+    rows_asked(interpreter, rows, n, &[4])
 }
 
 // What is wrong with controls and the names that get them.

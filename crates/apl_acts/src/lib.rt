@@ -2,6 +2,7 @@
 #![tactic(auto)]
 
 mod alone;
+mod asking;
 mod controls;
 mod queries;
 mod reading;
@@ -9,4 +10,4 @@ mod sharing;
 
 pub use alone::hear_alone;
 pub use reading::{LineRead, read_line};
-pub use sharing::system;
+pub use sharing::{lent, system};

@@ -1,33 +1,25 @@
 ghost use Rattle.std.specs.Prelude.{◌≡◌, ◌||◌, ◌==◌, IfOk, unsigned_abs};
 ghost use Rattle.std.specs.List.{list_any};
-ghost use Rattle.apl_items.specs.Places.{OnWantOfMemory};
-ghost use Rattle.apl_meaning.specs.Expressions.{valued};
+ghost use Rattle.apl_workspace.specs.Workspace.{PlainWorkspace};
 ghost use Rattle.apl_meaning.specs.Queries.{queries, query_faults};
 ghost use Rattle.apl_meaning.specs.Sharing.{is_no_addressee};
-ghost use Rattle.apl_statements.specs.Moves.{Comes, part_gives};
-ghost use Rattle.apl_statements.specs.Sound.{IsCaller, IsFlow};
-ghost use Rattle.apl_statements.specs.Wants.{NoReportIsDue};
-ghost use Rattle.apl_statements.specs.Work.{StaysWithin};
+ghost use Rattle.apl_statements.specs.Interpreter.{PlainInterpreter};
+ghost use Rattle.apl_acts.specs.Asking.{Asks, MayBeAsked};
 ghost use Rattle.apl_acts.specs.Faults.{plain_faults};
 
+use crate::asking::Asking;
 use crate::sharing::{Wrong, is_no_addressee, refuse};
 use apl_arrays::{Array, Fail};
-use apl_statements::{Evaluation, Flow, Interpreter};
-use apl_values::ActPurpose;
 
-/// ⎕SVQ B: the parties with open offers where B is empty, else the names that a party offers. A report comes also where there
-/// is no memory.
-pub fn query(interpreter: &Interpreter, e: Evaluation, b: &Array) -> Result<Flow, Fail>
-    requires sound { IsCaller interpreter.now.workspace e }
-    ensures comes { Comes interpreter.now (part_gives interpreter.now e (λ s. valued (queries b.now s))) 0 interpreter.now result }
-    ensures memory { OnWantOfMemory result (NoReportIsDue interpreter.now (queries b.now)) }
-    ensures sound { IfOk result (IsFlow interpreter.now) }
-    ensures within { IfOk result (StaysWithin interpreter.now e interpreter.now) }
+/// ⎕SVQ B: the parties with open offers where B is empty, else the names that a party offers. It takes no memory.
+pub fn query(b: &Array) -> Result<Asking, Fail>
+    ensures may { (w : PlainWorkspace) → IfOk result (MayBeAsked w) }
+    ensures asks { (m : PlainInterpreter) → Asks m (queries b.now) result }
 {
     refuse(query_wrong(b))?;
     match b.numbers().first() {
-        Some(party) => interpreter.open(ActPurpose::Names(party.unsigned_abs() as u32), e),
-        None => interpreter.open(ActPurpose::Parties, e),
+        Some(party) => Ok(Asking::Names(party.unsigned_abs() as u32)),
+        None => Ok(Asking::Parties),
     }
 }
 

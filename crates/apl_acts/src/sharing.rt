@@ -1,5 +1,6 @@
 ghost use Rattle.std.specs.Prelude.{◌≡◌, ◌<◌, Some, None, false, [], All, IfErr, IfOk, IfSome, OnOk, length, map, option_map, slice_index_or};
 ghost use Rattle.std.specs.List.{list_any};
+ghost use Rattle.std.specs.Option.{option_copied};
 ghost use Rattle.apl_arrays.specs.Array.{FitsLimits, element_count};
 ghost use Rattle.apl_arrays.specs.Limits.{most_axes};
 ghost use Rattle.apl_arrays.specs.declared.report.Fail.TheVariants as fail;
@@ -11,15 +12,17 @@ ghost use Rattle.apl_meaning.specs.Expressions.{valued};
 ghost use Rattle.apl_meaning.specs.Naming.{naming_count, naming_faults, namings_of, result_shape, rows_of};
 ghost use Rattle.apl_meaning.specs.Queries.{system_outcome};
 ghost use Rattle.apl_meaning.specs.Sharing.{cannot_be_offered, is_no_addressee, offer_faults, offers, plain_rows};
-ghost use Rattle.apl_values.specs.Rows.{RowMayBeDone, count_told, is_offer, plain_deed, plain_naming, plain_name_row, rest_of_rows, row_zeros};
+ghost use Rattle.apl_values.specs.Rows.{is_offer, plain_deed, plain_naming, plain_name_row, row_zeros};
 ghost use Rattle.apl_values.specs.Values.{IsStackValue, stack_value};
 ghost use Rattle.apl_statements.specs.Moves.{Comes, part_gives};
 ghost use Rattle.apl_statements.specs.Sound.{IsCaller, IsFlow};
 ghost use Rattle.apl_statements.specs.Holding.{parts_of};
 ghost use Rattle.apl_statements.specs.Wants.{NoReportIsDue};
 ghost use Rattle.apl_statements.specs.Work.{StaysWithin};
+ghost use Rattle.apl_acts.specs.Asking.{Asks, MayBeAsked};
 ghost use Rattle.apl_acts.specs.Faults.{IsOneOrAsMany, is_not_offered, offers_of, plain_faults};
 
+use crate::asking::{Asking, ask, rows_asked};
 use crate::controls::control;
 use crate::queries::query;
 use apl_arrays::{
@@ -28,7 +31,7 @@ use apl_arrays::{
 use apl_items::joined_shape;
 use apl_statements::{Evaluation, Flow, Interpreter};
 use apl_values::{
-    Deed, NameRow, Naming, Rows, StackValue, names_all, naming_at, naming_count, namings_of,
+    Deed, NameRow, Naming, StackValue, array_of, names_all, naming_at, naming_count, namings_of,
 };
 use apl_workspace::{Seen, Workspace, is_addressee};
 use arrayvec::ArrayVec;
@@ -88,7 +91,7 @@ fn result_shape(n: &Array, each: &[u32]) -> ArrayVec<u32, RANK_LIMIT>
     }
 }
 
-/// A system function of its arguments.
+/// A system function of its arguments. A report comes also where there is no memory.
 pub fn system(
     interpreter: &Interpreter,
     e: Evaluation,
@@ -100,125 +103,125 @@ pub fn system(
     requires left { IfSome left (IsStackValue interpreter.now.workspace (parts_of e)) }
     requires right { IsStackValue interpreter.now.workspace (parts_of e) right }
     ensures comes { Comes interpreter.now (part_gives interpreter.now e (λ s. valued (system_outcome name (option_map (stack_value interpreter.now.workspace (parts_of e)) left) (stack_value interpreter.now.workspace (parts_of e) right) s))) 0 interpreter.now result }
+    ensures memory { OnWantOfMemory result (NoReportIsDue interpreter.now (system_outcome name (option_map (stack_value interpreter.now.workspace (parts_of e)) left) (stack_value interpreter.now.workspace (parts_of e) right))) }
     ensures sound { IfOk result (IsFlow interpreter.now) }
     ensures within { IfOk result (StaysWithin interpreter.now e interpreter.now) }
 {
-    let right = interpreter.owned(&e, right)?;
-    match name {
-        SystemName::Svo => offer_or_ask(interpreter, e, left, &right),
-        SystemName::Svc => control_or_ask(interpreter, e, left, &right),
-        SystemName::Svr => plain_rows(interpreter, e, &right, &[], Deed::Retract),
-        SystemName::Svs => plain_rows(interpreter, e, &right, &[4], Deed::AskState),
-        SystemName::Svq => query(interpreter, e, &right),
+    let what = asked_by(
+        interpreter,
+        name,
+        lent(interpreter, &e, left.as_ref()),
+        array_of(&right, e.parts(), &interpreter.workspace),
+    )?;
+    ask(interpreter, e, what)
+}
+
+/// A value that is lent, where there is one.
+pub fn lent<'a>(
+    interpreter: &'a Interpreter,
+    e: &'a Evaluation,
+    held: Option<&'a StackValue>,
+) -> Option<&'a Array>
+    requires { IfSome (option_copied held) (IsStackValue interpreter.now.workspace (parts_of e.now)) }
+    ensures { option_copied result ≡ option_map (stack_value interpreter.now.workspace (parts_of e.now)) (option_copied held.entry) }
+{
+    match held {
+        None => None,
+        Some(held) => Some(array_of(held, e.parts(), &interpreter.workspace)),
     }
 }
 
-// P ⎕SVO N, or ⎕SVO N where there is no P, of which a report comes also where there is no memory.
-fn offer_or_ask(
+// What a system function asks of its arguments. A report comes also where there is no memory.
+fn asked_by(
     interpreter: &Interpreter,
-    e: Evaluation,
-    left: Option<StackValue>,
-    n: &Array,
-) -> Result<Flow, Fail>
-    requires sound { IsCaller interpreter.now.workspace e }
-    requires left { IfSome left (IsStackValue interpreter.now.workspace (parts_of e)) }
-    ensures comes { Comes interpreter.now (part_gives interpreter.now e (λ s. valued (system_outcome Svo (option_map (stack_value interpreter.now.workspace (parts_of e)) left) n.now s))) 0 interpreter.now result }
-    ensures memory { left ≡ None → OnWantOfMemory result (NoReportIsDue interpreter.now (system_outcome Svo None n.now)) }
-    ensures sound { IfOk result (IsFlow interpreter.now) }
-    ensures within { IfOk result (StaysWithin interpreter.now e interpreter.now) }
+    name: SystemName,
+    left: Option<&Array>,
+    right: &Array,
+) -> Result<Asking, Fail>
+    ensures may { IfOk result (MayBeAsked interpreter.now.workspace) }
+    ensures asks { Asks interpreter.now (system_outcome name (option_copied left.entry) right.now) result }
+{
+    match name {
+        SystemName::Svo => offer_or_ask(interpreter, left, right),
+        SystemName::Svc => control_or_ask(interpreter, left, right),
+        SystemName::Svr => plain_rows(interpreter, right, &[], Deed::Retract),
+        SystemName::Svs => plain_rows(interpreter, right, &[4], Deed::AskState),
+        SystemName::Svq => query(right),
+    }
+}
+
+// P ⎕SVO N, or ⎕SVO N where there is no P. A report comes also where there is no memory.
+fn offer_or_ask(interpreter: &Interpreter, left: Option<&Array>, n: &Array) -> Result<Asking, Fail>
+    ensures may { IfOk result (MayBeAsked interpreter.now.workspace) }
+    ensures asks { Asks interpreter.now (system_outcome Svo (option_copied left.entry) n.now) result }
 {
     match left {
-        None => plain_rows(interpreter, e, n, &[], Deed::AskDegree),
-        Some(held) => {
-            let parties = interpreter.owned(&e, held)?;
-            offer(interpreter, e, &parties, n)
-        }
+        None => plain_rows(interpreter, n, &[], Deed::AskDegree),
+        Some(parties) => offer(interpreter, parties, n),
     }
 }
 
-// C ⎕SVC N, or ⎕SVC N where there is no C, of which a report comes also where there is no memory.
+// C ⎕SVC N, or ⎕SVC N where there is no C. A report comes also where there is no memory.
 fn control_or_ask(
     interpreter: &Interpreter,
-    e: Evaluation,
-    left: Option<StackValue>,
+    left: Option<&Array>,
     n: &Array,
-) -> Result<Flow, Fail>
-    requires sound { IsCaller interpreter.now.workspace e }
-    requires left { IfSome left (IsStackValue interpreter.now.workspace (parts_of e)) }
-    ensures comes { Comes interpreter.now (part_gives interpreter.now e (λ s. valued (system_outcome Svc (option_map (stack_value interpreter.now.workspace (parts_of e)) left) n.now s))) 0 interpreter.now result }
-    ensures memory { left ≡ None → OnWantOfMemory result (NoReportIsDue interpreter.now (system_outcome Svc None n.now)) }
-    ensures sound { IfOk result (IsFlow interpreter.now) }
-    ensures within { IfOk result (StaysWithin interpreter.now e interpreter.now) }
+) -> Result<Asking, Fail>
+    ensures may { IfOk result (MayBeAsked interpreter.now.workspace) }
+    ensures asks { Asks interpreter.now (system_outcome Svc (option_copied left.entry) n.now) result }
 {
     match left {
-        None => plain_rows(interpreter, e, n, &[4], Deed::AskControl),
-        Some(held) => {
-            let controls = interpreter.owned(&e, held)?;
-            control(interpreter, e, &controls, n)
-        }
+        None => plain_rows(interpreter, n, &[4], Deed::AskControl),
+        Some(controls) => control(interpreter, controls, n),
     }
 }
 
 // The same is done for each row. A report comes also where there is no memory.
 fn plain_rows(
     interpreter: &Interpreter,
-    e: Evaluation,
     n: &Array,
     each: &[u32],
     deed: Deed,
-) -> Result<Flow, Fail>
-    requires sound { IsCaller interpreter.now.workspace e }
+) -> Result<Asking, Fail>
     requires plain { is_offer (plain_deed deed) ≡ false }
     requires each { element_count each.now ≡ length (row_zeros (plain_deed deed)) }
     requires small { FitsLimits each.now }
     requires few { length each.now < most_axes }
-    ensures comes { Comes interpreter.now (part_gives interpreter.now e (λ s. valued (plain_rows n.now each.now (plain_deed deed) s))) 0 interpreter.now result }
-    ensures memory { OnWantOfMemory result (NoReportIsDue interpreter.now (plain_rows n.now each.now (plain_deed deed))) }
-    ensures sound { IfOk result (IsFlow interpreter.now) }
-    ensures within { IfOk result (StaysWithin interpreter.now e interpreter.now) }
+    ensures may { IfOk result (MayBeAsked interpreter.now.workspace) }
+    ensures asks { Asks interpreter.now (plain_rows n.now each.now (plain_deed deed)) result }
 {
     refuse(naming_wrong(n, each))?;
     let namings = namings_of(interpreter.alloc, n)?;
     let rows = same_rows(interpreter.alloc, namings, deed)?;
-    do_rows(interpreter, e, rows, n, each)
+    rows_asked(interpreter, rows, n, each)
 }
 
 // P ⎕SVO N: each row's local name is offered to its party. A report comes also where there is no memory.
-fn offer(interpreter: &Interpreter, e: Evaluation, p: &Array, n: &Array) -> Result<Flow, Fail>
-    requires sound { IsCaller interpreter.now.workspace e }
-    ensures comes { Comes interpreter.now (part_gives interpreter.now e (λ s. valued (offers p.now n.now s))) 0 interpreter.now result }
-    ensures memory { OnWantOfMemory result (NoReportIsDue interpreter.now (offers p.now n.now)) }
-    ensures sound { IfOk result (IsFlow interpreter.now) }
-    ensures within { IfOk result (StaysWithin interpreter.now e interpreter.now) }
+fn offer(interpreter: &Interpreter, p: &Array, n: &Array) -> Result<Asking, Fail>
+    ensures may { IfOk result (MayBeAsked interpreter.now.workspace) }
+    ensures asks { Asks interpreter.now (offers p.now n.now) result }
 {
     match namings_of(interpreter.alloc, n) {
-        Ok(namings) => offer_names(interpreter, e, p, n, namings),
-        Err(WantOfMemory) => {
-            drop(e);
-            Err(why_not_offered(&interpreter.workspace, p, n))
-        }
+        Ok(namings) => offer_names(interpreter, p, n, namings),
+        Err(WantOfMemory) => Err(why_not_offered(&interpreter.workspace, p, n)),
     }
 }
 
 // The same, where these are the names of the rows.
 fn offer_names(
     interpreter: &Interpreter,
-    e: Evaluation,
     p: &Array,
     n: &Array,
     namings: Vec<Naming>,
-) -> Result<Flow, Fail>
-    requires sound { IsCaller interpreter.now.workspace e }
+) -> Result<Asking, Fail>
     requires names { map plain_naming namings.items ≡ namings_of n.now }
-    ensures comes { Comes interpreter.now (part_gives interpreter.now e (λ s. valued (offers p.now n.now s))) 0 interpreter.now result }
-    ensures memory { OnWantOfMemory result (NoReportIsDue interpreter.now (offers p.now n.now)) }
-    ensures sound { IfOk result (IsFlow interpreter.now) }
-    ensures within { IfOk result (StaysWithin interpreter.now e interpreter.now) }
+    ensures may { IfOk result (MayBeAsked interpreter.now.workspace) }
+    ensures asks { Asks interpreter.now (offers p.now n.now) result }
 {
     let not_offered = some_not_offered(&interpreter.workspace, &namings);
     refuse(offer_wrong(p, n, not_offered))?;
     let rows = offers(interpreter.alloc, p.numbers(), namings)?;
-    do_rows(interpreter, e, rows, n, &[])
+    rows_asked(interpreter, rows, n, &[])
 }
 
 // Why nothing was offered where there was no memory for the names: what is wrong is told first.
@@ -242,27 +245,6 @@ pub fn refuse(wrong: Wrong) -> Result<(), Report>
         Some(report) => Err(report),
         None => Ok(()),
     }
-}
-
-/// Rows are done, first to last.
-pub fn do_rows(
-    interpreter: &Interpreter,
-    e: Evaluation,
-    rows: Vec<NameRow>,
-    n: &Array,
-    each: &[u32],
-) -> Result<Flow, Fail>
-    requires sound { IsCaller interpreter.now.workspace e }
-    requires may { All (RowMayBeDone interpreter.now.workspace) (map plain_name_row rows.items) }
-    requires fits { FitsLimits (result_shape n.now each.now) }
-    requires count { element_count (result_shape n.now each.now) ≡ count_told (map plain_name_row rows.items) }
-    ensures comes { Comes interpreter.now (part_gives interpreter.now e (rest_of_rows [] (map plain_name_row rows.items) (result_shape n.now each.now))) 0 interpreter.now result }
-    ensures refused { IfErr result (λ why. why ≡ fail.WantOfMemory) }
-    ensures sound { IfOk result (IsFlow interpreter.now) }
-    ensures within { IfOk result (StaysWithin interpreter.now e interpreter.now) }
-{
-    let rows = Rows::new(interpreter.alloc, rows, n, each)?;
-    interpreter.next_row(e, rows)
 }
 
 // What is wrong with the parties and the names of an offer, where some local name cannot be offered, or none.

@@ -1,38 +1,173 @@
 -- Lists as arrays: an axis that is too long stays so where it is cut, and names that are filled to the longest.
-use Rattle.std.proofs.Common.{◌≡◌, refl, Bool, true, false, Ok, Some, None, ◌&&◌, if◌then◌else◌, ℕ, ◌+◌, ◌-◌, ◌*◌, ◌<◌, ◌≤◌, List, [], ◌∷◌, length, get_or, min, max, sym, ap, subst, ◌∙◌, arith, zero, suc}
-use Rattle.std.specs.Prelude.{fold, map, replicate}
+use Rattle.std.proofs.Common.{◌≡◌, refl, Bool, true, false, Ok, Err, IsOk, Option, Some, None, ◌&&◌, if◌then◌else◌, ℕ, ◌+◌, ◌-◌, ◌*◌, ◌<◌, ◌≤◌, List, [], ◌∷◌, length, get_or, min, max, sym, ap, ◌∙◌, arith, zero, suc}
+use Rattle.std.specs.Prelude.{ℤ, fold, is_some, map, pos, replicate}
 use Rattle.std.specs.List.{flat_map}
-use Rattle.std.proofs.lemmas.List.{length-append, length-replicate}
-use Rattle.std.proofs.lemmas.List.Elements.{All-head, All-tail}
-use Rattle.apl_arrays.specs.Array.{FitsLimits, PlainArray, PlainItems, chars, element_count}
+use Rattle.std.proofs.lemmas.List.{length-append, length-map, length-replicate}
+use Rattle.apl_arrays.specs.Array.{PlainArray, PlainItems, chars, element_count, numbers}
 use Rattle.apl_arrays.specs.Glyph.{blank}
 use Rattle.apl_arrays.specs.Limits.{most_elements}
+use Rattle.std.proofs.lemmas.Bool.{false≢true}
 use Rattle.std.proofs.lemmas.Bool.Decides.{nat_tests}
-use Rattle.apl_arrays.specs.Shape.{is_small}
+use Rattle.apl_arrays.specs.Shape.{is_small, shape_fault}
+use Rattle.apl_arrays.specs.declared.array.ShapeFault.{ShapeFault}
 use Rattle.apl_arrays.specs.declared.array.ShapeFault.TheVariants.{Size}
-use Rattle.apl_items.specs.Answers.{ArrayResult, answer_of, faults_of_fault, shape_faults}
-use Rattle.apl_meaning.specs.Queries.{filled, longest, name_matrix}
+use Rattle.apl_arrays.specs.declared.report.Fail.{Fail}
+use Rattle.apl_arrays.specs.declared.report.Fail.TheVariants as fail
+use Rattle.apl_arrays.specs.declared.report.Report.TheVariants.{WsFull}
+use Rattle.apl_items.specs.Answers.{AnswersFirst, ArrayResult, answer_of, faults_of_fault, shape_faults}
+use Rattle.apl_items.specs.Places.{OnWantOfMemory}
+use Rattle.apl_meaning.specs.Queries.{filled, list_outcome, longest, name_matrix, party_vector}
+use Rattle.apl_meaning.specs.State.{State, outcome_of}
+use Rattle.apl_statements.specs.declared.flow.Flow.{Flow}
+use Rattle.apl_statements.specs.Interpreter.{PlainInterpreter, state_at}
+use Rattle.apl_statements.specs.Wants.{IsNoReport, NoReportIsDue}
+use Rattle.apl_statements.proofs.Renewing.{above}
 
 -- the length of an axis that is cut, but stays over the limit
 abbrev pub cut : ℕ → ℕ
 cut n = min n (most_elements + 1)
 
-first_fits : (axis : ℕ) (axes : List ℕ) → FitsLimits (axis ∷ axes) → axis ≤ most_elements
-first_fits axis axes fits = All-head (λ a. a ≤ most_elements) axis axes fits.axes
-
-second_fits : (first axis : ℕ) (axes : List ℕ) → FitsLimits (first ∷ axis ∷ axes) → axis ≤ most_elements
-second_fits first axis axes fits = All-head (λ a. a ≤ most_elements) axis axes (All-tail (λ a. a ≤ most_elements) first (axis ∷ axes) fits.axes)
-
 -- a list of this shape
 abbrev pub shaped : List ℕ → PlainItems → PlainArray
 shaped shape items = record { shape = shape; items = items }
 
--- the axes of a matrix that fits are not cut
-pub fits_uncut : (n k : ℕ) → FitsLimits (cut n ∷ cut k ∷ []) → (cut n ≡ n) × (cut k ≡ k)
-fits_uncut n k fits =
-    let first : cut n ≤ most_elements = first_fits (cut n) (cut k ∷ []) fits in
-    let second : cut k ≤ most_elements = second_fits (cut n) (cut k) [] fits in
-    ((let same : cut n ≡ n = omega (arith, first) in same), (let same : cut k ≡ k = omega (arith, second) in same))
+-- ---- what is wrong with a shape whose axes are cut
+
+is_within : (axis : ℕ) → is_small axis ≡ true → axis ≤ most_elements
+is_within axis small = grind (arith, nat_tests, small)
+
+is_over : (axis : ℕ) → is_small axis ≡ false → most_elements < axis
+is_over axis long = grind (arith, nat_tests, long)
+
+is_long : (axis : ℕ) → most_elements < axis → is_small axis ≡ false
+is_long axis over = above axis most_elements over
+
+-- an axis within the limit is not cut
+uncut : (n : ℕ) → is_small (cut n) ≡ true → cut n ≡ n
+uncut n small =
+    let within : cut n ≤ most_elements = is_within (cut n) small in
+    omega (arith, within)
+
+-- and one over the limit stays over it
+still_long : (n : ℕ) → is_small (cut n) ≡ false → is_small n ≡ false
+still_long n long =
+    let over : most_elements < cut n = is_over (cut n) long in
+    is_long n (omega (arith, over))
+
+-- the fault of one axis, or of two, by whether each is small, and all elements are
+abbrev one_fault : Bool → Bool → Option ShapeFault
+one_fault x z = if (x && true) && z then None else Some Size
+
+abbrev two_fault : Bool → Bool → Bool → Option ShapeFault
+two_fault x y z = if (x && (y && true)) && z then None else Some Size
+
+second_long : (x z : Bool) → two_fault x false z ≡ Some Size
+second_long true z = refl
+second_long false z = refl
+
+-- a list has the fault of the one whose axis is cut
+pub one_cut : (n : ℕ) → shape_fault (cut n ∷ []) ≡ shape_fault (n ∷ [])
+one_cut n = by (is_small (cut n)) refl
+  where
+    by : (b : Bool) → is_small (cut n) ≡ b → shape_fault (cut n ∷ []) ≡ shape_fault (n ∷ [])
+    by true small = ap (λ (k : ℕ). shape_fault (k ∷ [])) (uncut n small)
+    by false long =
+        ap (λ (x : Bool). one_fault x (is_small (element_count (cut n ∷ [])))) long
+        ∙ sym (ap (λ (x : Bool). one_fault x (is_small (element_count (n ∷ [])))) (still_long n long))
+
+-- and so a matrix
+pub two_cut : (n k : ℕ) → shape_fault (cut n ∷ cut k ∷ []) ≡ shape_fault (n ∷ k ∷ [])
+two_cut n k = by (is_small (cut n)) (is_small (cut k)) refl refl
+  where
+    second : is_small (cut k) ≡ false → shape_fault (cut n ∷ cut k ∷ []) ≡ shape_fault (n ∷ k ∷ [])
+    second long =
+        ap (λ (y : Bool). two_fault (is_small (cut n)) y (is_small (element_count (cut n ∷ cut k ∷ [])))) long
+        ∙ second_long (is_small (cut n)) (is_small (element_count (cut n ∷ cut k ∷ [])))
+        ∙ sym (second_long (is_small n) (is_small (element_count (n ∷ k ∷ []))))
+        ∙ sym (ap (λ (y : Bool). two_fault (is_small n) y (is_small (element_count (n ∷ k ∷ [])))) (still_long k long))
+
+    by : (a b : Bool) → is_small (cut n) ≡ a → is_small (cut k) ≡ b → shape_fault (cut n ∷ cut k ∷ []) ≡ shape_fault (n ∷ k ∷ [])
+    by true true first small = ap (λ (i : ℕ). shape_fault (i ∷ cut k ∷ [])) (uncut n first) ∙ ap (λ (i : ℕ). shape_fault (n ∷ i ∷ [])) (uncut k small)
+    by true false first long = second long
+    by false true first small =
+        ap (λ (x : Bool). two_fault x (is_small (cut k)) (is_small (element_count (cut n ∷ cut k ∷ [])))) first
+        ∙ sym (ap (λ (x : Bool). two_fault x (is_small k) (is_small (element_count (n ∷ k ∷ [])))) (still_long n first))
+    by false false first long = second long
+
+-- where a shape of one axis or two has a fault, the list would be too large
+sized : (b : Bool) (array : PlainArray) → is_some (if b then None else Some Size) ≡ true → answer_of (faults_of_fault (if b then None else Some Size)) array ≡ Err WsFull
+sized true array some = absurd (false≢true some)
+sized false array some = refl
+
+pub one_too_large : (n a : ℕ) (array : PlainArray) → a ≡ cut n → is_some (shape_fault (a ∷ [])) ≡ true → answer_of (shape_faults (n ∷ [])) array ≡ Err WsFull
+one_too_large n a array is some =
+    sized ((is_small n && true) && is_small (element_count (n ∷ []))) array
+    (sym (ap is_some (ap (λ (k : ℕ). shape_fault (k ∷ [])) is ∙ one_cut n)) ∙ some)
+
+pub two_too_large : (n k a b : ℕ) (array : PlainArray) → a ≡ cut n → b ≡ cut k → is_some (shape_fault (a ∷ b ∷ [])) ≡ true → answer_of (shape_faults (n ∷ k ∷ [])) array ≡ Err WsFull
+two_too_large n k a b array first second some =
+    sized ((is_small n && (is_small k && true)) && is_small (element_count (n ∷ k ∷ []))) array
+    (sym (ap is_some (ap (λ (i : ℕ). shape_fault (i ∷ b ∷ [])) first ∙ ap (λ (i : ℕ). shape_fault (cut n ∷ i ∷ [])) second ∙ two_cut n k)) ∙ some)
+
+-- and where it has none, the list is made
+faultless : (found : Option ShapeFault) (array : PlainArray) → is_some found ≡ false → answer_of (faults_of_fault found) array ≡ Ok array
+faultless None array none = refl
+faultless (Some fault) array none = absurd (false≢true (sym none))
+
+pub one_fits : (n a : ℕ) (array : PlainArray) → a ≡ cut n → is_some (shape_fault (a ∷ [])) ≡ false → answer_of (shape_faults (n ∷ [])) array ≡ Ok array
+one_fits n a array is none = faultless (shape_fault (n ∷ [])) array (sym (ap is_some (ap (λ (k : ℕ). shape_fault (k ∷ [])) is ∙ one_cut n)) ∙ none)
+
+pub two_fit : (n k a b : ℕ) (array : PlainArray) → a ≡ cut n → b ≡ cut k → is_some (shape_fault (a ∷ b ∷ [])) ≡ false → answer_of (shape_faults (n ∷ k ∷ [])) array ≡ Ok array
+two_fit n k a b array first second none =
+    faultless (shape_fault (n ∷ k ∷ [])) array
+    (sym (ap is_some (ap (λ (i : ℕ). shape_fault (i ∷ b ∷ [])) first ∙ ap (λ (i : ℕ). shape_fault (cut n ∷ i ∷ [])) second ∙ two_cut n k)) ∙ none)
+
+-- its axes are not cut
+first_small : (x z : Bool) → is_some (one_fault x z) ≡ false → x ≡ true
+first_small true z none = refl
+first_small false z none = absurd (false≢true (sym none))
+
+both_small : (x y z : Bool) → is_some (two_fault x y z) ≡ false → (x ≡ true) × (y ≡ true)
+both_small true true z none = (refl, refl)
+both_small true false z none = absurd (false≢true (sym none))
+both_small false y z none = absurd (false≢true (sym none))
+
+one_uncut : (n a : ℕ) → a ≡ cut n → is_some (shape_fault (a ∷ [])) ≡ false → a ≡ n
+one_uncut n a is none = is ∙ uncut n (sym (ap is_small is) ∙ first_small (is_small a) (is_small (element_count (a ∷ []))) none)
+
+two_uncut : (n k a b : ℕ) → a ≡ cut n → b ≡ cut k → is_some (shape_fault (a ∷ b ∷ [])) ≡ false → (a ≡ n) × (b ≡ k)
+two_uncut n k a b first second none =
+    let small : (is_small a ≡ true) × (is_small b ≡ true) = both_small (is_small a) (is_small b) (is_small (element_count (a ∷ b ∷ []))) none in
+    (first ∙ uncut n (sym (ap is_small first) ∙ small.0), second ∙ uncut k (sym (ap is_small second) ∙ small.1))
+
+-- ---- parties in a vector
+
+pub parties_whole : (parties : List ℕ) (list : List ℤ) (a : ℕ) → a ≡ cut (length parties) → list ≡ map (λ party. pos party) parties → is_some (shape_fault (a ∷ [])) ≡ false → element_count (a ∷ []) ≡ length list
+parties_whole parties list a is are none =
+    ap (λ (k : ℕ). element_count (k ∷ [])) (one_uncut (length parties) a is none)
+    ∙ (let one : element_count (length parties ∷ []) ≡ length parties = omega arith in one)
+    ∙ sym (length-map parties (λ party. pos party))
+    ∙ ap length (sym are)
+
+pub parties_listed : (parties : List ℕ) (list : List ℤ) (a : ℕ) (array : PlainArray) → a ≡ cut (length parties) → list ≡ map (λ party. pos party) parties → is_some (shape_fault (a ∷ [])) ≡ false → array ≡ shaped (a ∷ []) (numbers list)
+    → answer_of (shape_faults (party_vector parties).shape) (party_vector parties) ≡ Ok array
+parties_listed parties list a array is are none made =
+    one_fits (length parties) a (party_vector parties) is none
+    ∙ ap (λ (x : PlainArray). Ok x) (sym (made ∙ ap (λ (k : ℕ). shaped (k ∷ []) (numbers list)) (one_uncut (length parties) a is none) ∙ ap (λ (l : List ℤ). shaped (length parties ∷ []) (numbers l)) are))
+
+-- ---- where memory ran out for a list
+
+listed_there : (answer : ArrayResult) (s : State) → IsOk answer → IsNoReport (outcome_of answer s)
+listed_there (Ok array) s is = tt
+listed_there (Err report) s is = absurd (false≢true is)
+
+-- a list that is not too large ends the line by no report
+pub listed_free : (m : PlainInterpreter) (array : PlainArray) → IsOk (answer_of (shape_faults array.shape) array) → NoReportIsDue m (list_outcome array)
+listed_free m array is asked count taken = listed_there (answer_of (shape_faults array.shape) array) (state_at m asked count taken []) is
+
+pub listed_wants : (m : PlainInterpreter) (array : PlainArray) (why : Fail) → AnswersFirst (Err why) (answer_of (shape_faults array.shape) array) → OnWantOfMemory {T = Flow} (Err why) (NoReportIsDue m (list_outcome array))
+listed_wants m array (fail.Report report) first = tt
+listed_wants m array fail.WantOfMemory first = listed_free m array first
 
 -- ---- names that are filled
 
@@ -61,41 +196,26 @@ filled_count width names wide = upto names 0 wide
         let own : length (filled width n) ≡ length n + (width - length n) = length-append n (replicate (width - length n) blank) ∙ ap (λ (k : ℕ). length n + k) (length-replicate (width - length n) blank) in
         length-append (filled width n) (flat_map (filled width) names) ∙ (let sum : length (filled width n) + length (flat_map (filled width) names) ≡ suc (length names) * width = omega (arith, under, rest, own, wide) in sum)
 
--- ---- names in a matrix, whose axes are cut
+-- ---- names in a matrix
 
--- an array of this shape, unless it would be too large
-abbrev listed_as : ℕ → ℕ → List ℕ → ArrayResult
-listed_as a b glyphs = answer_of (shape_faults (a ∷ b ∷ [])) (shaped (a ∷ b ∷ []) (chars glyphs))
-
--- where the matrix fits, its glyphs are those of the names
-pub names_fit : (names : List (List ℕ)) (glyphs : List ℕ) (a b width : ℕ) → a ≡ cut (length names) → b ≡ cut width → width ≡ longest names → glyphs ≡ flat_map (filled width) names → FitsLimits (a ∷ b ∷ []) → element_count (a ∷ b ∷ []) ≡ length glyphs
-names_fit names glyphs a b width rows columns wide are fits =
+pub names_whole : (names : List (List ℕ)) (glyphs : List ℕ) (a b width : ℕ) → a ≡ cut (length names) → b ≡ cut width → width ≡ longest names → glyphs ≡ flat_map (filled width) names → is_some (shape_fault (a ∷ b ∷ [])) ≡ false → element_count (a ∷ b ∷ []) ≡ length glyphs
+names_whole names glyphs a b width rows columns wide are none =
     let n : ℕ = length names in
-    let uncut : (cut n ≡ n) × (cut width ≡ width) = fits_uncut n width (subst (λ (k : ℕ). FitsLimits (cut n ∷ k ∷ [])) columns (subst (λ (k : ℕ). FitsLimits (k ∷ b ∷ [])) rows fits)) in
+    let same : (a ≡ n) × (b ≡ width) = two_uncut n width a b rows columns none in
     let count : length (flat_map (filled width) names) ≡ n * width = filled_count width names (let most : longest names ≤ width = omega (arith, wide) in most) in
-    ap (λ (k : ℕ). element_count (k ∷ b ∷ [])) (rows ∙ uncut.0)
-    ∙ ap (λ (k : ℕ). element_count (n ∷ k ∷ [])) (columns ∙ uncut.1)
+    ap (λ (k : ℕ). element_count (k ∷ b ∷ [])) same.0
+    ∙ ap (λ (k : ℕ). element_count (n ∷ k ∷ [])) same.1
     ∙ (let two : element_count (n ∷ width ∷ []) ≡ n * width = omega arith in two)
     ∙ sym count
     ∙ ap length (sym are)
 
--- a matrix that was made has short axes
-short_axes : (x y z : Bool) (made array : PlainArray) → answer_of (faults_of_fault (if x && (y && true) && z then None else Some Size)) made ≡ Ok array → (x ≡ true) × (y ≡ true)
-short_axes true true z made array is = (refl, refl)
-short_axes true false z made array is = absurd (grind (arith, is))
-short_axes false y z made array is = absurd (grind (arith, is))
-
-is_within : (axis : ℕ) → is_small axis ≡ true → axis ≤ most_elements
-is_within axis small = grind (arith, nat_tests, small)
-
--- where the cut matrix was made, it is that of the names
-pub names_listed : (names : List (List ℕ)) (glyphs : List ℕ) (a b width : ℕ) (array : PlainArray) → a ≡ cut (length names) → b ≡ cut width → width ≡ longest names → glyphs ≡ flat_map (filled width) names → listed_as a b glyphs ≡ Ok array
+pub names_listed : (names : List (List ℕ)) (glyphs : List ℕ) (a b width : ℕ) (array : PlainArray) → a ≡ cut (length names) → b ≡ cut width → width ≡ longest names → glyphs ≡ flat_map (filled width) names → is_some (shape_fault (a ∷ b ∷ [])) ≡ false → array ≡ shaped (a ∷ b ∷ []) (chars glyphs)
     → answer_of (shape_faults (name_matrix names).shape) (name_matrix names) ≡ Ok array
-names_listed names glyphs a b width array rows columns wide are is =
-    let short : (is_small a ≡ true) × (is_small b ≡ true) = short_axes (is_small a) (is_small b) (is_small (element_count (a ∷ b ∷ []))) (shaped (a ∷ b ∷ []) (chars glyphs)) array is in
-    let first : length names ≡ a = omega (arith, rows, is_within a short.0) in
-    let second : longest names ≡ b = omega (arith, columns, wide, is_within b short.1) in
-    let filling : flat_map (filled (longest names)) names ≡ glyphs = ap (λ (k : ℕ). flat_map (filled k) names) (sym wide) ∙ sym are in
-    ap (λ (k : ℕ). listed_as k (longest names) (flat_map (filled (longest names)) names)) first
-    ∙ (ap (λ (k : ℕ). listed_as a k (flat_map (filled (longest names)) names)) second
-    ∙ (ap (λ (k : List ℕ). listed_as a b k) filling ∙ is))
+names_listed names glyphs a b width array rows columns wide are none made =
+    let n : ℕ = length names in
+    let same : (a ≡ n) × (b ≡ width) = two_uncut n width a b rows columns none in
+    two_fit n (longest names) a b (name_matrix names) rows (columns ∙ ap cut wide) none
+    ∙ ap (λ (x : PlainArray). Ok x) (sym (made
+    ∙ ap (λ (i : ℕ). shaped (i ∷ b ∷ []) (chars glyphs)) same.0
+    ∙ ap (λ (i : ℕ). shaped (n ∷ i ∷ []) (chars glyphs)) (same.1 ∙ wide)
+    ∙ ap (λ (l : List ℕ). shaped (n ∷ longest names ∷ []) (chars l)) (are ∙ ap (λ (k : ℕ). flat_map (filled k) names) wide)))

@@ -1,13 +1,18 @@
 -- Items of a value are replaced, and values that were got.
-use Rattle.std.proofs.Common.{◌≡◌, ℕ, List, [], ◌∷◌, refl, ap, ◌∙◌}
-use Rattle.std.specs.Prelude.{Option, Some, Ok, Err}
+use Rattle.std.proofs.Common.{◌≡◌, ◌<◌, ◌≤◌, ◌+◌, ◌-◌, ℕ, Bool, true, false, cond, List, [], ◌∷◌, length, refl, sym, ap, ◌∙◌, arith}
+use Rattle.std.specs.Prelude.{◌≢◌, Option, Some, None, Ok, Err, count_by, if◌then◌else◌, is_some, map, nat_lt}
+use Rattle.std.proofs.lemmas.Bool.{false≢true}
+use Rattle.std.proofs.lemmas.Bool.Decides.{nat_tests}
+use Rattle.std.proofs.lemmas.List.{length-map, length-reverse}
+use Rattle.std.proofs.lemmas.List.Sums.{sum_by-cons}
 use Rattle.apl_arrays.specs.Array.{PlainArray}
 use Rattle.apl_arrays.specs.declared.report.Fail.{Fail}
 use Rattle.apl_arrays.specs.declared.report.Fail.TheVariants as fail
-use Rattle.apl_arrays.specs.declared.report.Report.TheVariants.{Value}
+use Rattle.apl_arrays.specs.declared.report.Report.{Report}
+use Rattle.apl_arrays.specs.declared.report.Report.TheVariants.{Syntax, Value}
 use Rattle.apl_items.specs.Answers.{ArrayResult, Answers}
 use Rattle.apl_selection.specs.Assignment.{assign_of}
-use Rattle.apl_workspace.specs.Workspace.{look}
+use Rattle.apl_workspace.specs.Workspace.{is_assignable, look}
 use Rattle.apl_workspace.specs.declared.meaning.Meaning.{Meaning}
 use Rattle.apl_workspace.specs.declared.meaning.Meaning.TheVariants as meaning
 use Rattle.apl_meaning.specs.Answers.{got, with_copy}
@@ -16,12 +21,13 @@ use Rattle.apl_meaning.specs.Nodes.{Values, items_step, leaving_values, popped}
 use Rattle.apl_meaning.specs.State.{State, Outcome, gives, refuses, and_then, outcome_of}
 use Rattle.apl_meaning.specs.Variables.{assignment}
 use Rattle.apl_values.specs.Pending.{act_asked_for, assigned_giving, replaced, replaces}
+use Rattle.apl_values.specs.Values.{stack_value}
 use Rattle.apl_statements.specs.declared.evaluation.Evaluation.{Evaluation}
 use Rattle.apl_statements.specs.Evaluating.{caller_of, evaluation_of}
 use Rattle.apl_statements.specs.Interpreter.{PlainInterpreter, here, state_at}
 use Rattle.apl_statements.specs.Moves.{Comes, part_gives, part_takes}
 use Rattle.apl_statements.specs.Stack.{carried_on, onward}
-use Rattle.apl_statements.specs.Holding.{stack_values}
+use Rattle.apl_statements.specs.Holding.{parts_of, stack_values}
 use Rattle.apl_statements.proofs.Opened.{use_opens}
 use Rattle.apl_statements.proofs.Same.{SameAt, at_once}
 use Rattle.apl_statements.proofs.Steps.{grouped}
@@ -78,3 +84,73 @@ items_of_nothing m e name places is =
     let all : List PlainArray = stack_values m.workspace e in
     ap (λ (o : Outcome Values). and_then o (λ values t. onward (record (evaluation_of m.workspace e) { values = values }) m.stack t))
     (step_of_nothing name (popped places all).subs (popped places all).values (state_at m asked count taken further) is))
+
+-- ---- items of a label or a function
+
+below : (a b : ℕ) → nat_lt a b ≡ true → a < b
+below a b e = grind (arith, nat_tests)
+
+not_below : (a b : ℕ) → nat_lt a b ≡ false → b ≤ a
+not_below a b e = grind (arith, nat_tests)
+
+code_refused : (seen : Meaning) (name : List ℕ) (subs : List (Option PlainArray)) (right : PlainArray) (s : State) → is_assignable seen ≡ false → items_where seen name subs right s ≡ refuses Syntax s
+code_refused meaning.Nothing name subs right s code = absurd (false≢true (sym code))
+code_refused (meaning.Value value) name subs right s code = absurd (false≢true (sym code))
+code_refused (meaning.Function function) name subs right s code = refl
+code_refused (meaning.Label line) name subs right s code = refl
+code_refused (meaning.Shared copy) name subs right s code = absurd (false≢true (sym code))
+
+step_of_code : (name : List ℕ) (subs : List (Option PlainArray)) (values : List PlainArray) (s : State) → is_assignable (look s.workspace name) ≡ false → 0 < length values → items_step name subs values s ≡ refuses Syntax s
+step_of_code name subs [] s code some = absurd (omega (arith, some))
+step_of_code name subs (right ∷ values) s code some = ap (λ (o : Outcome Found). leaving_values values o) (code_refused (look s.workspace name) name subs right s code)
+
+step_of_none : (name : List ℕ) (subs : List (Option PlainArray)) (values : List PlainArray) (s : State) → length values ≡ 0 → items_step name subs values s ≡ refuses Value s
+step_of_none name subs [] s none = refl
+step_of_none name subs (right ∷ values) s none = absurd (omega (arith, none))
+
+-- as many values are taken as subscripts are given
+popped_length : (places : List (Option ℕ)) (values : List PlainArray) → length (popped places values).values ≡ length values - count_by is_some places
+popped_length [] values = omega arith
+popped_length (None ∷ places) values =
+    let rest : length (popped places values).values ≡ length values - count_by is_some places = popped_length places values in
+    let one : count_by is_some (None ∷ places) ≡ 0 + count_by is_some places = sum_by-cons (λ (o : Option ℕ). cond (is_some o) 1 0) None places in
+    omega (arith, rest, one)
+popped_length (Some k ∷ places) [] =
+    let rest : length (popped places []).values ≡ 0 - count_by is_some places = popped_length places [] in
+    let one : count_by is_some (Some k ∷ places) ≡ 1 + count_by is_some places = sum_by-cons (λ (o : Option ℕ). cond (is_some o) 1 0) (Some k) places in
+    omega (arith, rest, one)
+popped_length (Some k ∷ places) (v ∷ values) =
+    let rest : length (popped places values).values ≡ length values - count_by is_some places = popped_length places values in
+    let one : count_by is_some (Some k ∷ places) ≡ 1 + count_by is_some places = sum_by-cons (λ (o : Option ℕ). cond (is_some o) 1 0) (Some k) places in
+    omega (arith, rest, one)
+
+step_by_count : (name : List ℕ) (places : List (Option ℕ)) (all : List PlainArray) (s : State) (b : Bool) → is_assignable (look s.workspace name) ≡ false → nat_lt (count_by is_some places) (length all) ≡ b
+    → items_step name (popped places all).subs (popped places all).values s ≡ refuses (if b then Syntax else Value) s
+step_by_count name places all s true code is =
+    let more : count_by is_some places < length all = below (count_by is_some places) (length all) is in
+    let left : length (popped places all).values ≡ length all - count_by is_some places = popped_length places all in
+    step_of_code name (popped places all).subs (popped places all).values s code (omega (arith, more, left))
+step_by_count name places all s false code is =
+    let few : length all ≤ count_by is_some places = not_below (count_by is_some places) (length all) is in
+    let left : length (popped places all).values ≡ length all - count_by is_some places = popped_length places all in
+    step_of_none name (popped places all).subs (popped places all).values s (omega (arith, few, left))
+
+-- the line ends, by SYNTAX ERROR where there is a right side
+pub items_of_code : (m : PlainInterpreter) (e : Evaluation) (name : List ℕ) (places : List (Option ℕ)) (why : Report) → is_assignable (look m.workspace name) ≡ false → why ≡ (if nat_lt (count_by is_some places) (length e.values.items) then Syntax else Value)
+    → Comes m (part_takes m e (λ values. items_step name (popped places values).subs (popped places values).values)) 0 m (Err (fail.Report why))
+items_of_code m e name places why code is =
+    let all : List PlainArray = stack_values m.workspace e in
+    let many : length e.values.items ≡ length all = sym (length-reverse (map (stack_value m.workspace (parts_of e)) e.values.items) ∙ length-map e.values.items (stack_value m.workspace (parts_of e))) in
+    let same : why ≡ (if nat_lt (count_by is_some places) (length all) then Syntax else Value) = is ∙ ap (λ (n : ℕ). if nat_lt (count_by is_some places) n then Syntax else Value) many in
+    at_once m (part_takes m e (λ values. items_step name (popped places values).subs (popped places values).values)) (λ s. refuses why s) (λ asked count taken further.
+    let s : State = state_at m asked count taken further in
+    ap (λ (o : Outcome Values). and_then o (λ values t. onward (record (evaluation_of m.workspace e) { values = values }) m.stack t))
+    (step_by_count name places all s (nat_lt (count_by is_some places) (length all)) code refl)
+    ∙ ap (λ (r : Report). refuses r s) (sym same))
+
+-- a name that has a value, or is shared, takes items
+pub value_takes_items : (seen : Meaning) (value : PlainArray) → seen ≡ meaning.Value value → (seen ≢ meaning.Nothing) × (is_assignable seen ≡ true)
+value_takes_items seen value is = ((λ (nothing : seen ≡ meaning.Nothing). let no : meaning.Value value ≡ meaning.Nothing = sym is ∙ nothing in cc), ap is_assignable is)
+
+pub share_takes_items : (seen : Meaning) (copy : Option PlainArray) → seen ≡ meaning.Shared copy → (seen ≢ meaning.Nothing) × (is_assignable seen ≡ true)
+share_takes_items seen copy is = ((λ (nothing : seen ≡ meaning.Nothing). let no : meaning.Shared copy ≡ meaning.Nothing = sym is ∙ nothing in cc), ap is_assignable is)

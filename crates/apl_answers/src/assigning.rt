@@ -1,4 +1,4 @@
-ghost use Rattle.std.specs.Prelude.{◌≡◌, ◌≢◌, ◌≤◌, ◌∷◌, List, Some, true, false, IfErr, IfOk, IsOk, unwrap_or};
+ghost use Rattle.std.specs.Prelude.{◌≡◌, ◌≢◌, ◌≤◌, ◌∷◌, List, Some, None, Err, true, false, if◌then◌else◌, IfErr, IfOk, IfSome, IsOk, count_by, is_some, length, nat_lt, unwrap_or};
 ghost use Rattle.std.specs.Option.{option_copied};
 ghost use Rattle.apl_workspace.specs.Limits.{most_weight};
 ghost use Rattle.apl_workspace.specs.Meaning.{is_shared_meaning, shared_copy};
@@ -6,6 +6,7 @@ ghost use Rattle.apl_workspace.specs.Workspace.{IsNotAssigned, assigned, is_assi
 ghost use Rattle.apl_workspace.specs.declared.meaning.Meaning.TheVariants as meaning;
 ghost use Rattle.apl_arrays.specs.Array.{PlainArray};
 ghost use Rattle.apl_arrays.specs.declared.report.Fail.TheVariants as fail;
+ghost use Rattle.apl_arrays.specs.declared.report.Report.TheVariants as report;
 ghost use Rattle.apl_items.specs.Places.{OnWantOfMemory};
 ghost use Rattle.apl_selection.specs.Assignment.{assign_of};
 ghost use Rattle.apl_meaning.specs.Nodes.{assign_step, items_step, popped};
@@ -114,7 +115,8 @@ pub fn put(
 }
 
 /// Items of a name are replaced: its value with these items replaced is assigned to it. A shared name is used, and
-/// then set. VALUE ERROR for a name that stands for nothing, also where there is no memory.
+/// then set. VALUE ERROR for a name that stands for nothing, SYNTAX ERROR for a label or a function, each also where there is no
+/// memory.
 pub fn assign_items(
     interpreter: &mut Interpreter,
     e: Evaluation,
@@ -123,23 +125,54 @@ pub fn assign_items(
 ) -> Result<Flow, Fail>
     requires sound { IsCaller interpreter.old.workspace e }
     ensures comes { Comes interpreter.old (part_takes interpreter.old e (λ values. items_step name (popped places.now.items values).subs (popped places.now.items values).values)) 0 interpreter.new result }
-    ensures memory { OnWantOfMemory result (look interpreter.old.workspace name ≢ meaning.Nothing) }
+    ensures memory { OnWantOfMemory result ((look interpreter.old.workspace name ≢ meaning.Nothing) × (is_assignable (look interpreter.old.workspace name) ≡ true)) }
     ensures sound { IfOk result (IsFlow interpreter.new) }
     ensures within { IfOk result (StaysWithin interpreter.old e interpreter.new) }
 {
-    if stands_for_nothing(interpreter, &name) {
-        drop(e);
-        return Err(Fail::Report(Report::Value));
+    match no_items(interpreter, &e, &name, places) {
+        Some(report) => {
+            drop(e);
+            Err(Fail::Report(report))
+        }
+        None => assign_there(interpreter, e, name, places),
     }
-    assign_there(interpreter, e, name, places)
 }
 
-// Whether a name stands for nothing.
-fn stands_for_nothing(interpreter: &Interpreter, name: &Name) -> bool
-    ensures nothing { result ≡ true → look interpreter.now.workspace name.now ≡ meaning.Nothing }
-    ensures other { result ≡ false → look interpreter.now.workspace name.now ≢ meaning.Nothing }
+// The report on a name that has no items to be replaced, if it has none: it stands for nothing, or is a label or a function.
+fn no_items(
+    interpreter: &Interpreter,
+    e: &Evaluation,
+    name: &Name,
+    places: &Places,
+) -> Option<Report>
+    ensures some { IfSome result (λ report. Comes interpreter.now (part_takes interpreter.now e.now (λ values. items_step name.now (popped places.now.items values).subs (popped places.now.items values).values)) 0 interpreter.now (Err (fail.Report report))) }
+    ensures none { result ≡ None → (look interpreter.now.workspace name.now ≢ meaning.Nothing) × (is_assignable (look interpreter.now.workspace name.now) ≡ true) }
 {
-    matches!(interpreter.workspace.look(name), Seen::Nothing)
+    match interpreter.workspace.look(name) {
+        Seen::Nothing => Some(Report::Value),
+        Seen::Value(_) => None,
+        Seen::Function(_) => Some(not_replaced(e, places)),
+        Seen::Label(_) => Some(not_replaced(e, places)),
+        Seen::Shared(_) => None,
+    }
+}
+
+// The report on a label or a function whose items are to be replaced: SYNTAX ERROR, or VALUE ERROR where there is no right side.
+fn not_replaced(e: &Evaluation, places: &Places) -> Report
+    ensures { result ≡ (if nat_lt (count_by is_some places.now.items) (length e.now.values.items) then report.Syntax else report.Value) }
+{
+    if given_count(places.as_slice()) < e.values.len() {
+        Report::Syntax
+    } else {
+        Report::Value
+    }
+}
+
+// How many subscripts are given.
+fn given_count(places: &[Option<u64>]) -> usize
+    ensures { result ≡ count_by is_some places.now }
+{
+    places.iter().filter(|place| place.is_some()).count()
 }
 
 // The same, where the subscripts and the right side are taken first.

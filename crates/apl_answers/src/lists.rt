@@ -1,12 +1,13 @@
-ghost use Rattle.std.specs.Prelude.{◌≡◌, ◌≤◌, ◌+◌, IfOk, length, min};
+ghost use Rattle.std.specs.Prelude.{◌≡◌, ◌≤◌, ◌+◌, IfOk, map, min, pos};
 ghost use Rattle.std.specs.List.{flat_map};
-ghost use Rattle.apl_arrays.specs.Array.{FitsLimits, element_count, item_count, plain_items};
 ghost use Rattle.apl_arrays.specs.Limits.{most_elements};
 ghost use Rattle.apl_meaning.specs.Expressions.{valued};
 ghost use Rattle.apl_meaning.specs.Queries.{filled, list_outcome, longest, name_matrix, party_vector};
 ghost use Rattle.apl_items.specs.Answers.{AnswersFirst, answer_of, shape_faults};
+ghost use Rattle.apl_items.specs.Places.{OnWantOfMemory};
 ghost use Rattle.apl_statements.specs.Moves.{Comes, part_gives};
 ghost use Rattle.apl_statements.specs.Sound.{IsCaller, IsFlow};
+ghost use Rattle.apl_statements.specs.Wants.{NoReportIsDue};
 ghost use Rattle.apl_statements.specs.Work.{StaysWithin};
 
 use apl_arrays::{
@@ -18,40 +19,65 @@ use apl_values::StackValue;
 use line_text::{add_blanks, add_glyphs};
 use std::alloc::Global;
 
-/// The parties that are listed are the value, as a vector.
+/// The parties that are listed are the value, as a vector; WS FULL where they are too many, also where there is no memory.
 pub fn list_parties(interpreter: &Interpreter, e: Evaluation, parties: &[u32]) -> Result<Flow, Fail>
     requires sound { IsCaller interpreter.now.workspace e }
     ensures comes { Comes interpreter.now (part_gives interpreter.now e (λ s. valued (list_outcome (party_vector parties.now) s))) 0 interpreter.now result }
+    ensures memory { OnWantOfMemory result (NoReportIsDue interpreter.now (list_outcome (party_vector parties.now))) }
     ensures sound { IfOk result (IsFlow interpreter.now) }
     ensures within { IfOk result (StaysWithin interpreter.now e interpreter.now) }
 {
-    let mut numbers = List::new(interpreter.alloc);
-    for party in parties {
-        numbers.push(i64::from(*party))?;
-    }
-    let array = listed(
-        interpreter.alloc,
-        &[capped(parties.len())],
-        Items::Numbers(NumberList::from(numbers)),
-    )?;
+    let array = party_vector(interpreter.alloc, parties)?;
     interpreter.give(e, StackValue::Made(array))
 }
 
-/// The names that are listed are the value, a row each, filled with blanks to the longest.
+// The parties in a vector; WS FULL where they are too many, also where there is no memory.
+fn party_vector(alloc: Global, parties: &[u32]) -> Result<Array, Fail>
+    ensures { AnswersFirst result (answer_of (shape_faults (party_vector parties.now).shape) (party_vector parties.now)) }
+{
+    let shape = [capped(parties.len())];
+    if shape_fault(&shape).is_some() {
+        return Err(Fail::Report(Report::WsFull));
+    }
+    let numbers = party_numbers(alloc, parties)?;
+    Ok(Array::shaped(alloc, &shape, Items::Numbers(numbers))?)
+}
+
+// The parties as numbers.
+fn party_numbers(alloc: Global, parties: &[u32]) -> Result<NumberList, WantOfMemory>
+    ensures { IfOk result (λ numbers. numbers.items ≡ map (λ party. pos party) parties.now) }
+{
+    let mut numbers = List::new(alloc);
+    for party in parties {
+        numbers.push(i64::from(*party))?;
+    }
+    Ok(NumberList::from(numbers))
+}
+
+/// The names that are listed are the value, a row each, filled with blanks to the longest; WS FULL where the matrix would be too
+/// large, also where there is no memory.
 pub fn list_names(interpreter: &Interpreter, e: Evaluation, names: &[Name]) -> Result<Flow, Fail>
     requires sound { IsCaller interpreter.now.workspace e }
     ensures comes { Comes interpreter.now (part_gives interpreter.now e (λ s. valued (list_outcome (name_matrix names.now) s))) 0 interpreter.now result }
+    ensures memory { OnWantOfMemory result (NoReportIsDue interpreter.now (list_outcome (name_matrix names.now))) }
     ensures sound { IfOk result (IsFlow interpreter.now) }
     ensures within { IfOk result (StaysWithin interpreter.now e interpreter.now) }
 {
-    let width = longest(names);
-    let glyphs = filled_names(interpreter.alloc, names, width)?;
-    let array = listed(
-        interpreter.alloc,
-        &[capped(names.len()), capped(width)],
-        Items::Chars(glyphs),
-    )?;
+    let array = name_matrix(interpreter.alloc, names)?;
     interpreter.give(e, StackValue::Made(array))
+}
+
+// The names in a matrix; WS FULL where it would be too large, also where there is no memory.
+fn name_matrix(alloc: Global, names: &[Name]) -> Result<Array, Fail>
+    ensures { AnswersFirst result (answer_of (shape_faults (name_matrix names.now).shape) (name_matrix names.now)) }
+{
+    let width = longest(names);
+    let shape = [capped(names.len()), capped(width)];
+    if shape_fault(&shape).is_some() {
+        return Err(Fail::Report(Report::WsFull));
+    }
+    let glyphs = filled_names(alloc, names, width)?;
+    Ok(Array::shaped(alloc, &shape, Items::Chars(glyphs))?)
 }
 
 // The length of the longest of names.
@@ -83,16 +109,4 @@ fn capped(length: usize) -> u32
     ensures { result ≡ min length (most_elements + 1) }
 {
     length.min(ELEMENT_LIMIT + 1) as u32
-}
-
-// A list as an array; WS FULL where it would be too large. It takes memory.
-fn listed(alloc: Global, shape: &[u32], items: Items) -> Result<Array, Fail>
-    requires few { length shape.now ≤ 2 }
-    requires whole { FitsLimits shape.now → element_count shape.now ≡ item_count (plain_items items) }
-    ensures { AnswersFirst result (answer_of (shape_faults shape.now) (record { shape = shape.now; items = plain_items items })) }
-{
-    if shape_fault(shape).is_some() {
-        return Err(Fail::Report(Report::WsFull));
-    }
-    Ok(Array::shaped(alloc, shape, items)?)
 }

@@ -1,9 +1,11 @@
 -- A call enters a function: its frame stands before the others, and the statement that called it waits.
-use Rattle.std.proofs.Common.{◌≡◌, ℕ, ◌<◌, ◌≤◌, Bool, true, false, List, ◌∷◌, length, refl, sym, ap, ◌∙◌, leb, arith}
-use Rattle.std.specs.Prelude.{is_some, map, if◌then◌else◌}
+use Rattle.std.proofs.Common.{◌≡◌, ℕ, ◌<◌, ◌≤◌, Bool, true, false, List, ◌∷◌, length, refl, sym, ap, subst, ◌∙◌, leb, arith}
+use Rattle.std.specs.Prelude.{Err, is_some, map, if◌then◌else◌}
 use Rattle.std.proofs.lemmas.Bool.{and_parts, false≢true, le-leb}
 use Rattle.std.proofs.lemmas.Bool.Decides.{nat_tests}
-use Rattle.apl_arrays.specs.declared.report.Report.TheVariants.{WsFull}
+use Rattle.apl_arrays.specs.declared.report.Fail.TheVariants as fail
+use Rattle.apl_arrays.specs.declared.report.Report.{Report}
+use Rattle.apl_arrays.specs.declared.report.Report.TheVariants.{Syntax, WsFull}
 use Rattle.apl_workspace.specs.Frame.{AreArgumentsOf}
 use Rattle.apl_workspace.specs.Function.{PlainFunction}
 use Rattle.apl_workspace.specs.Header.{PlainHeader}
@@ -14,19 +16,21 @@ use Rattle.apl_workspace.specs.declared.meaning.Meaning.{Meaning}
 use Rattle.apl_workspace.specs.declared.meaning.Meaning.TheVariants as meaning
 use Rattle.apl_meaning.specs.State.{State, Outcome, gives, refuses, and_then, with_workspace}
 use Rattle.apl_meaning.specs.Tasks.{Next}
-use Rattle.apl_meaning.specs.Calls.{call, entering, takes}
+use Rattle.apl_meaning.specs.Calls.{call, call_by, called, entering, takes}
+use Rattle.apl_meaning.specs.Expressions.{Found}
 use Rattle.apl_meaning.specs.Verbs.{both_or_neither}
 use Rattle.apl_meaning.specs.Meaning.{ran}
 use Rattle.apl_values.specs.Values.{settled}
 use Rattle.apl_statements.specs.declared.evaluation.Evaluation.{Evaluation}
 use Rattle.apl_statements.specs.Evaluating.{caller_of, function_by, takes_by}
 use Rattle.apl_statements.specs.Interpreter.{PlainInterpreter, here, state_at}
-use Rattle.apl_statements.specs.Moves.{Does, Moves, part_gives}
-use Rattle.apl_statements.specs.Stack.{PlainCaller, PlainWaiting, at_line, from_line, onward_lines}
+use Rattle.apl_statements.specs.Moves.{Comes, Does, Moves, part_gives}
+use Rattle.apl_statements.specs.Stack.{PlainCaller, PlainWaiting, at_line, carried_on, from_line, onward_lines}
 use Rattle.apl_statements.specs.Holding.{IsWithValues}
 use Rattle.apl_statements.proofs.Renewing.{above, settled_caller}
 use Rattle.apl_statements.proofs.Same.{SameAt, at_once, behind_done, moves_as, moves_then}
 use Rattle.apl_statements.proofs.Steps.{call_enters}
+use Rattle.apl_calls.specs.Callings.{IsNotCalled, takes_so}
 
 -- one that is
 pub takes_function : (m : Meaning) (args : Args) → takes_by m args ≡ true → (m ≡ meaning.Function (function_by m)) × (takes (function_by m).header args ≡ true)
@@ -53,6 +57,14 @@ arguments_for (meaning.Value value) args is = absurd (false≢true is)
 arguments_for (meaning.Function function) args is = arguments_of function.header args is
 arguments_for (meaning.Label line) args is = absurd (false≢true is)
 arguments_for (meaning.Shared copy) args is = absurd (false≢true is)
+
+-- whether a name takes such arguments is whether it takes these
+pub takes_as : (seen : Meaning) (args : Args) → takes_so seen (is_some args.left) (is_some args.right) ≡ takes_by seen args
+takes_as meaning.Nothing args = refl
+takes_as (meaning.Value value) args = refl
+takes_as (meaning.Function function) args = refl
+takes_as (meaning.Label line) args = refl
+takes_as (meaning.Shared copy) args = refl
 
 -- an interpreter in which a function was entered
 abbrev pub entered_by : PlainInterpreter → List ℕ → Args → PlainFunction → PlainCaller → PlainInterpreter
@@ -104,3 +116,21 @@ too_deep m e name args takes deep =
 
 pub shallow : (most n : ℕ) → leb most n ≡ false → n < most
 shallow most n e = grind (arith, nat_tests)
+
+no_call : (seen : Meaning) (name : List ℕ) (args : Args) (s : State) → takes_by seen args ≡ false → call_by ran seen name args s ≡ refuses Syntax s
+no_call meaning.Nothing name args s other = refl
+no_call (meaning.Value value) name args s other = refl
+no_call (meaning.Function function) name args s other = ap (λ (b : Bool). if b then called ran function name args s else refuses Syntax s) other
+no_call (meaning.Label line) name args s other = refl
+no_call (meaning.Shared copy) name args s other = refl
+
+-- a function that is not called ends the line
+pub not_called : (m : PlainInterpreter) (e : Evaluation) (name : List ℕ) (args : Args) (why : Report) (takes : Bool) → takes ≡ takes_by (look m.workspace name) args → IsNotCalled takes (length m.workspace.frames) why
+    → Comes m (part_gives m e (λ s. call ran name args s)) 0 m (Err (fail.Report why))
+not_called m e name args why true is refused =
+    subst (λ (r : Report). Moves m (part_gives m e (λ s. call ran name args s)) 0 m (λ s. refuses r s)) (sym (refused.0))
+    (too_deep m e name args (sym is) (le-leb most_depth (length m.workspace.frames) (refused.1)))
+not_called m e name args why false is refused =
+    subst (λ (r : Report). Moves m (part_gives m e (λ s. call ran name args s)) 0 m (λ s. refuses r s)) (sym refused)
+    (at_once m (part_gives m e (λ s. call ran name args s)) (λ s. refuses Syntax s) (λ asked count taken further.
+    ap (λ (o : Outcome Found). carried_on o (caller_of m.workspace (here m) e) m.stack) (no_call (look m.workspace name) name args (state_at m asked count taken further) (sym is))))

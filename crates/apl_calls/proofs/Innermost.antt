@@ -21,7 +21,7 @@ use Rattle.apl_statements.specs.declared.waiting.Waiting.{Waiting}
 use Rattle.apl_statements.specs.Evaluating.{function_by, innermost_function, line_of_innermost, stack_of}
 use Rattle.apl_statements.specs.Sound.{AreUnderWay, IsKeptLine, IsFunctionUnderWay}
 use Rattle.apl_statements.specs.Stack.{PlainWaiting}
-use Rattle.apl_calls.specs.Waitings.{AreKeptOrRead, IsStandingAt}
+use Rattle.apl_calls.specs.Waitings.{AreKeptOrRead, IsKeptAt, IsStandingAt}
 
 -- ---- lines by their numbers
 
@@ -98,6 +98,28 @@ kept_is_read w input callers waiting number at are is there before =
     let some : IsSome (line_numbered f.lines number) = subst (λ (g : PlainFunction). IsSome (line_numbered g.lines number)) innermost there in
     subst (λ (g : PlainFunction). IfSome (slice_get waiting.readings.items at) (λ kept. IfSome kept (λ reading. IsReadFrom w (unwrap_or (line_numbered g.lines number) []) (arc_value reading)))) (sym innermost)
     (subst (λ (line : Option (List ℕ)). IfSome (slice_get waiting.readings.items at) (λ kept. IfSome kept (λ reading. IsKeptLine w line (arc_value reading)))) (line_before f.lines number at some before) (under.0.lines at))
+
+-- a line of which a reading is kept is there
+kept_line_there : {A : Type 0} (w : PlainWorkspace) (line : Option (List ℕ)) (read : A → LineReading) (kept : Option (Option A)) (reading : A) → kept ≡ Some (Some reading) → IfSome kept (λ kept. IfSome kept (λ r. IsKeptLine w line (read r))) → IsSome line
+kept_line_there w line read None reading e is = absurd (let no : None ≡ Some (Some reading) = e in cc)
+kept_line_there w line read (Some None) reading e is = absurd (let no : Some None ≡ Some (Some reading) = e in cc)
+kept_line_there w None read (Some (Some one)) reading e is = absurd is
+kept_line_there w (Some line) read (Some (Some one)) reading e is = refl
+
+numbered_there : (lines : List (List ℕ)) (number : ℕ) → 1 ≤ number → IsSome (slice_get lines (number - 1)) → IsSome (line_numbered lines number)
+numbered_there lines zero some is = absurd (omega (arith, some))
+numbered_there lines (suc number) some is =
+    let same : suc number - 1 ≡ number = omega arith in
+    subst (λ (k : ℕ). IsSome (slice_get lines k)) same is
+
+pub kept_is_there : (w : PlainWorkspace) (input : List ℕ) (callers : List Waiting) (waiting : Waiting) (number : ℕ) → AreUnderWay w (reverse callers) → slice_get callers (length callers - 1) ≡ Some waiting → IsKeptAt waiting.readings.items number
+    → IsSome (line_of_innermost (stack_of w input (reverse callers)) number)
+kept_is_there w input callers waiting number are is kept =
+    let f : PlainFunction = function_by (global_in w waiting.name) in
+    let under : AreUnderWay w (waiting ∷ reverse (take (length callers - 1) callers)) = subst (AreUnderWay w) (last_first callers waiting is) are in
+    let innermost : innermost_function (stack_of w input (reverse callers)) ≡ f = ap (λ (ws : List Waiting). innermost_function (stack_of w input ws)) (last_first callers waiting is) in
+    subst (λ (g : PlainFunction). IsSome (line_numbered g.lines number)) (sym innermost)
+    (numbered_there f.lines number kept.some (kept_line_there w (slice_get f.lines (number - 1)) arc_value (slice_get waiting.readings.items (number - 1)) kept.reading kept.there (under.0.lines (number - 1))))
 
 -- one reading more is kept
 still_kept : {A : Type 0} (w : PlainWorkspace) (lines : List (List ℕ)) (read : A → LineReading) (before after : List (Option A)) (at : ℕ) (reading : LineReading) (line : List ℕ) → AreKeptOrRead read at reading before after → slice_get lines at ≡ Some line → IsReadFrom w line reading

@@ -1,2 +1,3 @@
+pub mod Callings
 pub mod Ended
 pub mod Waitings

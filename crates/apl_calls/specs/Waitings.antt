@@ -1,5 +1,5 @@
 -- Functions that wait, where the innermost goes to another line, or keeps what was read of one.
-use Rattle.std.specs.Prelude.{◌≡◌, ◌++◌, ◌⊎◌, ℕ, List, [], ◌∷◌, Option, Some, slice_get}
+use Rattle.std.specs.Prelude.{◌≡◌, ◌≤◌, ◌-◌, ◌++◌, ◌⊎◌, ℕ, List, [], ◌∷◌, Option, Some, slice_get}
 use Rattle.apl_values.specs.declared.reading.LineReading.{LineReading}
 use Rattle.apl_statements.specs.declared.waiting.Waiting.{Waiting}
 use Rattle.apl_statements.specs.Stack.{PlainWaiting, at_line}
@@ -19,3 +19,9 @@ pub record IsStandingAt (number : ℕ) (before after : List Waiting) : Type 0 wh
 -- what is kept of lines was kept before, or is this reading at its place
 abbrev pub AreKeptOrRead : {A : Type 0} → (A → LineReading) → ℕ → LineReading → List (Option A) → List (Option A) → Type 0
 AreKeptOrRead {A = A} read at reading before after = (k : ℕ) (kept : A) → slice_get after k ≡ Some (Some kept) → (slice_get before k ≡ Some (Some kept)) ⊎ ((k ≡ at) × (read kept ≡ reading))
+
+-- a reading is kept of the line of this number; the first has number 1
+pub record IsKeptAt {A : Type 0} (readings : List (Option A)) (number : ℕ) : Type 0 where
+  pub reading : A
+  pub some : 1 ≤ number
+  pub there : slice_get readings (number - 1) ≡ Some (Some reading)

@@ -1,35 +1,32 @@
-ghost use Rattle.std.specs.Prelude.{◌≡◌, ◌≢◌, ◌-◌, ◌+◌, ◌<◌, ◌≤◌, [], ◌∷◌, true, false, IfErr, IfOk, IfSome, IsSome, OnErr, OnOk, drop, is_some, length, nat_le, option_map, slice_get, unwrap_or};
+ghost use Rattle.std.specs.Prelude.{◌≡◌, ◌≢◌, ◌-◌, ◌+◌, ◌<◌, ◌≤◌, [], false, IfErr, IfOk, IfSome, IsSome, OnErr, OnOk, drop, is_some, option_map, slice_get, unwrap_or};
 ghost use Rattle.std.specs.Arc.{arc_value};
 ghost use Rattle.std.specs.Option.{option_copied};
 ghost use Rattle.apl_arrays.specs.List.{glyphs_in};
 ghost use Rattle.apl_items.specs.Places.{OnWantOfMemory};
 ghost use Rattle.line_trees.specs.Trees.{line_tree_of};
-ghost use Rattle.apl_workspace.specs.Limits.{most_depth};
-ghost use Rattle.apl_workspace.specs.Workspace.{IsNotEntered, empty_workspace, look, with_frame};
 ghost use Rattle.apl_arrays.specs.declared.report.Report.TheVariants as report;
-ghost use Rattle.apl_meaning.specs.Calls.{call, entering, result_of};
+ghost use Rattle.apl_meaning.specs.Calls.{result_of};
 ghost use Rattle.apl_meaning.specs.Meaning.{ran};
 ghost use Rattle.apl_meaning.specs.Reading.{read_with};
 ghost use Rattle.apl_meaning.specs.Statements.{is_misplaced, line_outcome, text_outcome};
 ghost use Rattle.apl_meaning.specs.Tasks.{begun, immediate, in_function, text_at};
 ghost use Rattle.apl_values.specs.Places.{plain_place};
 ghost use Rattle.apl_values.specs.Parts.{IsNotRead, IsReadFrom, IsLineReading, reading_statement, reading_tree};
-ghost use Rattle.apl_statements.specs.Evaluating.{caller_of, evaluation_of, function_by, innermost_function, line_of_innermost, plain_next, plain_purpose, purpose_in, takes_by};
-ghost use Rattle.apl_statements.specs.Interpreter.{here};
-ghost use Rattle.apl_statements.specs.Moves.{Comes, HasDone, Moves, part_gives, statement_leads};
-ghost use Rattle.apl_statements.specs.Sound.{IsCaller, IsEvaluation, IsFlow};
-ghost use Rattle.apl_statements.specs.Stack.{at_line, behind, from_end, from_line, onward};
-ghost use Rattle.apl_statements.specs.Work.{IsAfresh, StaysWithin, caller_parts, flow_work, machine_work, parts_left};
+ghost use Rattle.apl_statements.specs.Evaluating.{evaluation_of, innermost_function, line_of_innermost, plain_next, plain_purpose, purpose_in};
+ghost use Rattle.apl_statements.specs.Moves.{Comes, Moves, statement_leads};
+ghost use Rattle.apl_statements.specs.Sound.{IsEvaluation, IsFlow};
+ghost use Rattle.apl_statements.specs.Stack.{behind, from_end, from_line, onward};
+ghost use Rattle.apl_statements.specs.Work.{IsAfresh, caller_parts, flow_work, machine_work, parts_left};
 ghost use Rattle.apl_statements.specs.declared.flow.Flow.TheVariants as flow;
 ghost use Rattle.apl_calls.specs.Ended.{line_behind};
 ghost use Rattle.apl_calls.specs.Waitings.{standing_on};
 
-use crate::seen::{following, takes, value_seen};
-use crate::waiting::{function_of, header_of, keep, line_numbered, make_room, stand_at};
-use apl_arrays::{Array, Fail, Line, Name, Report, WantOfMemory};
-use apl_statements::{Evaluation, Flow, Interpreter, Next, Purpose, Waiting};
-use apl_values::{LineReading, Place, read};
-use apl_workspace::{Args, DEPTH_LIMIT, Function};
+use crate::seen::{following, value_seen};
+use crate::waiting::{function_of, has_reading, header_of, keep, line_numbered, stand_at};
+use apl_arrays::{Array, Fail, Line, Report, WantOfMemory};
+use apl_statements::{Evaluation, Flow, Interpreter, Next, Purpose};
+use apl_values::{KnownLine, LineReading, Place, StackValue, read};
+use apl_workspace::Function;
 use line_trees::Form;
 use std::alloc::Global;
 use std::sync::Arc;
@@ -42,8 +39,8 @@ pub fn begin_input(interpreter: &mut Interpreter, reading: LineReading) -> Resul
     ensures memory { OnWantOfMemory result ((0 < interpreter.old.statements) × (is_misplaced immediate (line_tree_of (reading_tree reading)) ≡ false)) }
     ensures sound { IfOk result (IsFlow interpreter.new) }
 {
-    count_statement(interpreter)?;
-    begin_read(interpreter, Place::Immediate, reading)
+    let room = count_statement(interpreter)?;
+    begin_read(interpreter, room, Place::Immediate, reading)
 }
 
 /// Begins a text at a place. INTERRUPT where no statement may be begun, also where there is no memory.
@@ -53,13 +50,13 @@ pub fn begin_text(interpreter: &mut Interpreter, place: Place, text: &Line) -> R
     ensures sound { IfOk result (IsFlow interpreter.new) }
     ensures falls { IfOk result (λ next. flow_work interpreter.new next ≤ machine_work interpreter.old) }
 {
-    count_statement(interpreter)?;
+    let room = count_statement(interpreter)?;
     let reading = read(interpreter.alloc, &interpreter.workspace, text)?;
-    begin_read(interpreter, place, reading)
+    begin_read(interpreter, room, place, reading)
 }
 
-// A statement is begun; INTERRUPT where none may be.
-fn count_statement(interpreter: &mut Interpreter) -> Result<(), Report>
+// A statement is begun, and has a list for its values; INTERRUPT where none may be.
+fn count_statement(interpreter: &mut Interpreter) -> Result<Vec<StackValue>, Report>
     ensures ok { OnOk result ((0 < interpreter.old.statements) × (interpreter.new ≡ record interpreter.old { statements = interpreter.old.statements - 1 })) }
     ensures err { OnErr result (interpreter.new ≡ interpreter.old) }
     ensures refused { IfErr result (λ why. (why ≡ report.Interrupt) × (interpreter.old.statements ≡ 0)) }
@@ -68,11 +65,17 @@ fn count_statement(interpreter: &mut Interpreter) -> Result<(), Report>
         return Err(Report::Interrupt);
     }
     interpreter.statements -= 1;
-    Ok(())
+    Ok(interpreter.take_room())
 }
 
-// Begins a statement that was read. SYNTAX ERROR where it may not stand there, also where there is no memory to share it.
-fn begin_read(interpreter: &Interpreter, place: Place, reading: LineReading) -> Result<Flow, Fail>
+// Begins a statement that was read, with a list for its values. SYNTAX ERROR where it may not stand there, also where there is no
+// memory to share it.
+fn begin_read(
+    interpreter: &Interpreter,
+    room: Vec<StackValue>,
+    place: Place,
+    reading: LineReading,
+) -> Result<Flow, Fail>
     requires sound { IsLineReading reading }
     ensures comes { Comes interpreter.now (statement_leads interpreter.now (λ s. line_outcome ran (plain_place place) (line_tree_of (reading_tree reading)) s)) 0 interpreter.now result }
     ensures memory { OnWantOfMemory result (is_misplaced (plain_place place) (line_tree_of (reading_tree reading)) ≡ false) }
@@ -84,12 +87,13 @@ fn begin_read(interpreter: &Interpreter, place: Place, reading: LineReading) -> 
         return Err(Fail::Report(Report::Syntax));
     }
     let reading = shared(interpreter.alloc, reading)?;
-    begin_reading(interpreter, place, reading)
+    begin_reading(interpreter, room, place, reading)
 }
 
-// Begins a statement that was read and is shared. It takes no memory.
+// Begins a statement that was read and is shared, with a list for its values. It takes no memory.
 fn begin_reading(
     interpreter: &Interpreter,
+    room: Vec<StackValue>,
     place: Place,
     reading: Arc<LineReading>,
 ) -> Result<Flow, Fail>
@@ -104,79 +108,8 @@ fn begin_reading(
     }
     match purpose_of(&reading) {
         None => Ok(Flow::Leads(Next::GoesOn)),
-        Some(purpose) => Ok(Flow::Begins(Evaluation::new(
-            interpreter.alloc,
-            place,
-            purpose,
-            reading,
-        ))),
+        Some(purpose) => Ok(Flow::Begins(Evaluation::new(room, place, purpose, reading))),
     }
-}
-
-/// Enters a function, and begins its first line; where it has none it is left at once. SYNTAX ERROR where the name is no
-/// function of these arguments, else WS FULL where 100 functions are under way, each also where there is no memory; or WS FULL
-/// where its frame would weigh too much.
-pub fn call(
-    interpreter: &mut Interpreter,
-    caller: Evaluation,
-    name: Name,
-    args: Args,
-) -> Result<Flow, Fail>
-    requires sound { IsCaller interpreter.old.workspace caller }
-    ensures comes { Comes interpreter.old (part_gives interpreter.old caller (λ s. call ran name args s)) 0 interpreter.new result }
-    ensures memory { OnWantOfMemory result ((takes_by (look interpreter.old.workspace name) args ≡ true) × (length interpreter.old.workspace.frames < most_depth)) }
-    ensures sound { IfOk result (IsFlow interpreter.new) }
-    ensures within { IfOk result (StaysWithin interpreter.old caller interpreter.new) }
-{
-    let mut caller = caller;
-    if !takes(interpreter.workspace.look(&name), &args) {
-        return Err(Fail::Report(Report::Syntax));
-    }
-    if is_too_deep(interpreter) {
-        return Err(Fail::Report(Report::WsFull));
-    }
-    caller.settle(interpreter.alloc, &interpreter.workspace)?;
-    enter(interpreter, caller, name, args)?;
-    if has_line(interpreter, 1) {
-        begin_line(interpreter, 1)
-    } else {
-        Ok(Flow::Evaluates(leave(interpreter)?))
-    }
-}
-
-// Whether as many functions are under way as may be.
-fn is_too_deep(interpreter: &Interpreter) -> bool
-    ensures { result ≡ nat_le most_depth (length interpreter.now.workspace.frames) }
-{
-    interpreter.workspace.depth() >= DEPTH_LIMIT
-}
-
-// A function has its frame, and its caller waits under it. WS FULL where the workspace would weigh too much with the frame,
-// for which memory is taken first. There is room for the caller before there is a frame.
-fn enter(
-    interpreter: &mut Interpreter,
-    caller: Evaluation,
-    name: Name,
-    args: Args,
-) -> Result<(), Fail>
-    requires settled { IsCaller empty_workspace caller }
-    requires takes { takes_by (look interpreter.old.workspace name) args ≡ true }
-    requires shallow { length interpreter.old.workspace.frames < most_depth }
-    ensures done { HasDone interpreter.old (λ s. entering name args s) interpreter.new result }
-    ensures refused { IfErr result (IsNotEntered interpreter.old.workspace (with_frame interpreter.old.workspace name args)) }
-    ensures stack { OnOk result (interpreter.new.stack ≡ at_line (function_by (look interpreter.old.workspace name)) 0 (caller_of empty_workspace (here interpreter.old) caller) ∷ interpreter.old.stack) }
-    ensures beside { OnOk result (interpreter.new ≡ record interpreter.old { workspace = interpreter.new.workspace; stack = interpreter.new.stack }) }
-{
-    interpreter.rules();
-    make_room(&mut interpreter.callers)?;
-    interpreter.workspace.push_frame(&name, args)?;
-    interpreter.callers.push_reserved(Waiting {
-        name,
-        number: 0,
-        readings: Vec::new(interpreter.alloc),
-        caller,
-    });
-    Ok(())
 }
 
 /// A statement led somewhere: the line is over, or a line of the function under way follows, or the function is left.
@@ -197,8 +130,8 @@ pub fn follow(interpreter: &mut Interpreter, next: Next) -> Result<Flow, Fail>
     }
 }
 
-// Begins a line of the function under way, or leaves it where it has no line of this number.
-fn begin_line(interpreter: &mut Interpreter, number: usize) -> Result<Flow, Fail>
+/// Begins a line of the function under way, or leaves it where it has no line of this number.
+pub fn begin_line(interpreter: &mut Interpreter, number: usize) -> Result<Flow, Fail>
     requires some { interpreter.old.stack ≢ [] }
     ensures comes { Comes interpreter.old (from_line interpreter.old.stack number) 0 interpreter.new result }
     ensures memory { IsSome (line_of_innermost interpreter.old.stack number) → OnWantOfMemory result (0 < interpreter.old.statements) }
@@ -231,16 +164,26 @@ fn begin_text_of_line(interpreter: &mut Interpreter, number: usize) -> Result<Fl
     ensures afresh { IfOk result IsAfresh }
     ensures falls { IfOk result (λ next. flow_work interpreter.new next + 2 ≤ machine_work interpreter.old) }
 {
-    count_statement(interpreter)?;
+    let room = count_statement(interpreter)?;
     let reading = reading_of_line(interpreter, number)?;
-    begin_reading(interpreter, Place::InFunction, reading)
+    begin_reading(interpreter, room, Place::InFunction, reading)
 }
 
-// Whether the function under way has a line of this number.
-fn has_line(interpreter: &Interpreter, number: usize) -> bool
+/// Whether the function under way has a line of this number. A line whose reading is kept is there.
+pub fn has_line(interpreter: &Interpreter, number: usize) -> bool
     ensures { result ≡ is_some (line_of_innermost interpreter.now.stack number) }
 {
-    line_under_way(interpreter, number).is_some()
+    keeps_line(interpreter, number) || line_under_way(interpreter, number).is_some()
+}
+
+// Whether the reading of a line of this number is kept.
+fn keeps_line(interpreter: &Interpreter, number: usize) -> bool
+    ensures { result ≡ true → is_some (line_of_innermost interpreter.now.stack number) ≡ true }
+{
+    match interpreter.callers.last() {
+        None => false,
+        Some(waiting) => has_reading(&waiting.readings, number),
+    }
 }
 
 // The line of this number of the function under way.
@@ -273,6 +216,40 @@ fn reading_of_line(interpreter: &mut Interpreter, number: usize) -> Result<Arc<L
     Ok(reading)
 }
 
+// Reads a line of the function under way, unless its text is known.
+fn read_line(interpreter: &mut Interpreter, number: usize) -> Result<Arc<LineReading>, Fail>
+    requires there { IsSome (line_of_innermost interpreter.old.stack number) }
+    ensures read { IfOk result (λ reading. IsReadFrom interpreter.old.workspace (unwrap_or (line_of_innermost interpreter.old.stack number) []) (arc_value reading)) }
+    ensures refused { IfErr result (IsNotRead (read_with interpreter.old.workspace (unwrap_or (line_of_innermost interpreter.old.stack number) []))) }
+    ensures same { interpreter.new ≡ interpreter.old }
+{
+    if let Some(reading) = known_line(interpreter, number) {
+        return Ok(twin(reading)?);
+    }
+    learn_line(interpreter, number)
+}
+
+// The reading of a line of the function under way, where its text is known.
+fn known_line(interpreter: &Interpreter, number: usize) -> Option<&Arc<LineReading>>
+    requires there { IsSome (line_of_innermost interpreter.now.stack number) }
+    ensures { IfSome result (λ reading. IsReadFrom interpreter.now.workspace (unwrap_or (line_of_innermost interpreter.now.stack number) []) (arc_value reading.now)) }
+{
+    interpreter.known_reading(line_under_way(interpreter, number)?)
+}
+
+// Reads a line of the function under way, whose text is known from now on.
+fn learn_line(interpreter: &mut Interpreter, number: usize) -> Result<Arc<LineReading>, Fail>
+    requires there { IsSome (line_of_innermost interpreter.old.stack number) }
+    ensures read { IfOk result (λ reading. IsReadFrom interpreter.old.workspace (unwrap_or (line_of_innermost interpreter.old.stack number) []) (arc_value reading)) }
+    ensures refused { IfErr result (IsNotRead (read_with interpreter.old.workspace (unwrap_or (line_of_innermost interpreter.old.stack number) []))) }
+    ensures same { interpreter.new ≡ interpreter.old }
+{
+    let known = read_text(interpreter, number)?;
+    let reading = twin(known.reading());
+    interpreter.know(known);
+    Ok(reading?)
+}
+
 // The reading that is kept of a line.
 fn kept_reading(interpreter: &Interpreter, number: usize) -> Option<&Arc<LineReading>>
     requires there { IsSome (line_of_innermost interpreter.now.stack number) }
@@ -282,18 +259,15 @@ fn kept_reading(interpreter: &Interpreter, number: usize) -> Option<&Arc<LineRea
     waiting.readings.get(number - 1)?.as_ref()
 }
 
-// Reads a line of the function under way.
-fn read_line(interpreter: &Interpreter, number: usize) -> Result<Arc<LineReading>, Fail>
+// Reads the text of a line of the function under way.
+fn read_text(interpreter: &Interpreter, number: usize) -> Result<KnownLine, Fail>
     requires there { IsSome (line_of_innermost interpreter.now.stack number) }
-    ensures read { IfOk result (λ reading. IsReadFrom interpreter.now.workspace (unwrap_or (line_of_innermost interpreter.now.stack number) []) (arc_value reading)) }
+    ensures read { IfOk result (IsReadFrom interpreter.now.workspace (unwrap_or (line_of_innermost interpreter.now.stack number) [])) }
     ensures refused { IfErr result (IsNotRead (read_with interpreter.now.workspace (unwrap_or (line_of_innermost interpreter.now.stack number) []))) }
 {
     match line_under_way(interpreter, number) {
         None => unreachable!(),
-        Some(line) => {
-            let reading = read(interpreter.alloc, &interpreter.workspace, line)?;
-            Ok(shared(interpreter.alloc, reading)?)
-        }
+        Some(line) => KnownLine::read(interpreter.alloc, &interpreter.workspace, line),
     }
 }
 
@@ -317,8 +291,8 @@ fn keep_reading(
     }
 }
 
-// Leaves the function under way with its result, and the statement that called it goes on.
-fn leave(interpreter: &mut Interpreter) -> Result<Evaluation, WantOfMemory>
+/// Leaves the function under way with its result, and the statement that called it goes on.
+pub fn leave(interpreter: &mut Interpreter) -> Result<Evaluation, WantOfMemory>
     requires some { interpreter.old.stack ≢ [] }
     ensures comes { IfOk result (λ e. Moves interpreter.old (from_end interpreter.old.stack) 0 interpreter.new (λ s. onward (evaluation_of interpreter.new.workspace e) interpreter.new.stack s)) }
     ensures sound { IfOk result (IsEvaluation interpreter.new.workspace) }

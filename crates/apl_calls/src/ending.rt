@@ -30,11 +30,25 @@ use apl_workspace::{Function, Workspace};
 use std::alloc::Global;
 
 /// A statement has its value, or has none: it leads to a line, it is printed, or it is executed. What cannot be executed, or
-/// branched to, ends the line also where there is no memory.
+/// branched to, ends the line also where there is no memory. Its list of values goes to the next statement.
 pub fn end_statement(interpreter: &mut Interpreter, e: Evaluation) -> Result<Flow, Fail>
     requires sound { IsEvaluation interpreter.old.workspace e }
     ensures comes { Comes interpreter.old (value_put interpreter.old e (plain_purpose e.purpose)) 0 interpreter.new result }
     ensures memory { OnWantOfMemory result (NoReportIsDue interpreter.old (looked_at (plain_purpose e.purpose) (found_in (evaluation_of interpreter.old.workspace e).values))) }
+    ensures sound { IfOk result (IsFlow interpreter.new) }
+    ensures falls { IfOk result (Falls interpreter.old interpreter.new) }
+{
+    let mut e = e;
+    let ended = put_value(interpreter, &mut e);
+    interpreter.give_room(e);
+    ended
+}
+
+// What becomes of the value of a statement.
+fn put_value(interpreter: &mut Interpreter, e: &mut Evaluation) -> Result<Flow, Fail>
+    requires sound { IsEvaluation interpreter.old.workspace e.old }
+    ensures comes { Comes interpreter.old (value_put interpreter.old e.old (plain_purpose e.old.purpose)) 0 interpreter.new result }
+    ensures memory { OnWantOfMemory result (NoReportIsDue interpreter.old (looked_at (plain_purpose e.old.purpose) (found_in (evaluation_of interpreter.old.workspace e.old).values))) }
     ensures sound { IfOk result (IsFlow interpreter.new) }
     ensures falls { IfOk result (Falls interpreter.old interpreter.new) }
 {
@@ -47,27 +61,25 @@ pub fn end_statement(interpreter: &mut Interpreter, e: Evaluation) -> Result<Flo
 }
 
 // A branch to the value.
-fn branch(interpreter: &Interpreter, e: Evaluation) -> Result<Flow, Fail>
-    requires sound { IsEvaluation interpreter.now.workspace e }
-    ensures comes { Comes interpreter.now (value_put interpreter.now e branches) 0 interpreter.now result }
+fn branch(interpreter: &Interpreter, e: &mut Evaluation) -> Result<Flow, Fail>
+    requires sound { IsEvaluation interpreter.now.workspace e.old }
+    ensures comes { Comes interpreter.now (value_put interpreter.now e.old branches) 0 interpreter.now result }
     ensures memory { OnWantOfMemory result ⊥ }
     ensures sound { IfOk result (IsFlow interpreter.now) }
     ensures falls { IfOk result (Falls interpreter.now interpreter.now) }
 {
-    let mut e = e;
-    let held = needed(&mut e)?;
+    let held = needed(e)?;
     Ok(Flow::Leads(branch_to(array_of(&held, e.parts(), &interpreter.workspace))?))
 }
 
 // The value is printed where there is one.
-fn show(interpreter: &mut Interpreter, e: Evaluation) -> Result<Flow, Fail>
-    requires sound { IsEvaluation interpreter.old.workspace e }
-    ensures comes { Comes interpreter.old (value_put interpreter.old e (prints false)) 0 interpreter.new result }
+fn show(interpreter: &mut Interpreter, e: &mut Evaluation) -> Result<Flow, Fail>
+    requires sound { IsEvaluation interpreter.old.workspace e.old }
+    ensures comes { Comes interpreter.old (value_put interpreter.old e.old (prints false)) 0 interpreter.new result }
     ensures sound { IfOk result (IsFlow interpreter.new) }
     ensures falls { IfOk result (Falls interpreter.old interpreter.new) }
 {
-    let mut e = e;
-    if let Some(held) = found(&mut e) {
+    if let Some(held) = found(e) {
         let lines = lines_of(
             interpreter.alloc,
             array_of(&held, e.parts(), &interpreter.workspace),
@@ -78,15 +90,14 @@ fn show(interpreter: &mut Interpreter, e: Evaluation) -> Result<Flow, Fail>
 }
 
 // The value is executed as a text.
-fn execute(interpreter: &mut Interpreter, e: Evaluation) -> Result<Flow, Fail>
-    requires sound { IsEvaluation interpreter.old.workspace e }
-    ensures comes { Comes interpreter.old (value_put interpreter.old e executes) 0 interpreter.new result }
-    ensures memory { OnWantOfMemory result (NoReportIsDue interpreter.old (looked_at executes (found_in (evaluation_of interpreter.old.workspace e).values))) }
+fn execute(interpreter: &mut Interpreter, e: &mut Evaluation) -> Result<Flow, Fail>
+    requires sound { IsEvaluation interpreter.old.workspace e.old }
+    ensures comes { Comes interpreter.old (value_put interpreter.old e.old executes) 0 interpreter.new result }
+    ensures memory { OnWantOfMemory result (NoReportIsDue interpreter.old (looked_at executes (found_in (evaluation_of interpreter.old.workspace e.old).values))) }
     ensures sound { IfOk result (IsFlow interpreter.new) }
     ensures falls { IfOk result (Falls interpreter.old interpreter.new) }
 {
-    let mut e = e;
-    let held = needed(&mut e)?;
+    let held = needed(e)?;
     let text = text_of(
         interpreter.alloc,
         array_of(&held, e.parts(), &interpreter.workspace),

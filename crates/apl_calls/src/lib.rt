@@ -3,8 +3,10 @@
 
 mod calling;
 mod ending;
+mod entry;
 mod seen;
 mod waiting;
 
-pub use calling::{begin_input, call, follow};
+pub use calling::{begin_input, follow};
 pub use ending::{end_by, end_statement};
+pub use entry::{call, call_with};

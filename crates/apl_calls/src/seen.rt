@@ -2,23 +2,23 @@ ghost use Rattle.std.specs.Prelude.{◌≡◌, ◌^◌, ◌<◌, IfOk};
 ghost use Rattle.apl_workspace.specs.Seen.{plain_seen};
 ghost use Rattle.apl_meaning.specs.Calls.{local_value};
 ghost use Rattle.apl_meaning.specs.Tasks.{following};
-ghost use Rattle.apl_statements.specs.Evaluating.{plain_next, takes_by};
+ghost use Rattle.apl_statements.specs.Evaluating.{plain_next};
+ghost use Rattle.apl_calls.specs.Callings.{takes_so};
 
 use crate::waiting::header_of;
 use apl_arrays::{Array, WantOfMemory};
 use apl_statements::Next;
-use apl_workspace::{Args, Seen};
+use apl_workspace::Seen;
 use std::alloc::Global;
 
-/// Whether a name stands for a function of these arguments.
-pub fn takes(seen: Seen<'_>, args: &Args) -> bool
-    ensures { result ≡ takes_by (plain_seen seen.entry) args.now }
+/// Whether a name stands for a function with a left and a right argument exactly where these say so.
+pub fn takes_so(seen: Seen<'_>, has_left: bool, has_right: bool) -> bool
+    ensures { result ≡ takes_so (plain_seen seen.entry) has_left has_right }
 {
     match seen {
         Seen::Function(function) => {
             let header = header_of(function);
-            header.left.is_some() == args.left.is_some()
-                && header.right.is_some() == args.right.is_some()
+            header.left.is_some() == has_left && header.right.is_some() == has_right
         }
         _ => false,
     }

@@ -1,11 +1,11 @@
-ghost use Rattle.std.specs.Prelude.{◌≡◌, ◌≢◌, ◌<◌, [], OnOk, option_map, vec_capacity, vec_len};
+ghost use Rattle.std.specs.Prelude.{◌≡◌, ◌≢◌, ◌<◌, [], true, OnOk, option_map, vec_capacity, vec_len};
 ghost use Rattle.std.specs.Arc.{arc_value};
 ghost use Rattle.std.specs.Option.{option_copied};
 ghost use Rattle.apl_arrays.specs.List.{glyphs_in};
 ghost use Rattle.apl_workspace.specs.Workspace.{global_in};
 ghost use Rattle.apl_meaning.specs.Tasks.{line_numbered};
 ghost use Rattle.apl_statements.specs.Evaluating.{function_in};
-ghost use Rattle.apl_calls.specs.Waitings.{AreKeptOrRead, IsStandingAt};
+ghost use Rattle.apl_calls.specs.Waitings.{AreKeptOrRead, IsKeptAt, IsStandingAt};
 
 use apl_arrays::{Line, Name, WantOfMemory};
 use apl_statements::Waiting;
@@ -44,6 +44,19 @@ pub fn stand_at(callers: &mut Vec<Waiting>, number: usize)
 {
     let last = callers.len() - 1;
     callers[last].number = number;
+}
+
+/// Whether a reading is kept of the line of this number; the first has number 1.
+pub fn has_reading(readings: &[Option<Arc<LineReading>>], number: usize) -> bool
+    ensures { result ≡ true → IsKeptAt readings.now number }
+{
+    match number.checked_sub(1) {
+        None => false,
+        Some(at) => match readings.get(at) {
+            None => false,
+            Some(kept) => kept.is_some(),
+        },
+    }
 }
 
 /// A reading at its place among those that are kept; places before it may be empty. It takes memory for them.

@@ -25,10 +25,10 @@ pub record IsNextStackValue (m : PlainInterpreter) (e : Evaluation) (held : Stac
   pub is_held : IsStackValue m.workspace (parts_of e) held
   pub moves : Moves m (λ s. onward (evaluation_of m.workspace e) m.stack s) 0 m (part_gives m (record e { at = e.at + 1 }) (λ s. gives (Some (stack_value m.workspace (parts_of e) held)) s))
 
--- what a name stands for takes a value; where items of it are replaced, it stands for something
+-- what a name stands for takes a value; where items of it are replaced, it also stands for something
 abbrev pub MayBeAssigned : Bool → Meaning → Type 0
 MayBeAssigned false seen = is_assignable seen ≡ true
-MayBeAssigned true seen = seen ≢ meaning.Nothing
+MayBeAssigned true seen = (seen ≢ meaning.Nothing) × (is_assignable seen ≡ true)
 
 -- a part was done, or the statement is as it was
 abbrev pub HasPassed : Evaluation → Evaluation → Bool → Type 0

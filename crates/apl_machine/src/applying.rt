@@ -1,6 +1,4 @@
 ghost use Rattle.std.specs.Prelude.{◌≡◌, ◌-◌, ◌≤◌, ◌&&◌, ◌||◌, false, Some, IfErr, IfOk, IfSome, not, option_map};
-ghost use Rattle.std.specs.Option.{option_copied};
-ghost use Rattle.apl_arrays.specs.declared.report.Fail.TheVariants as fail;
 ghost use Rattle.apl_items.specs.Places.{OnWantOfMemory};
 ghost use Rattle.apl_meaning.specs.Expressions.{valued};
 ghost use Rattle.apl_meaning.specs.Meaning.{ran};
@@ -16,14 +14,13 @@ ghost use Rattle.apl_statements.specs.Wants.{NoReportIsDue};
 ghost use Rattle.apl_statements.specs.Work.{StaysWithin};
 ghost use Rattle.apl_machine.specs.Axes.{IsAxis, IsNoAxis};
 
-use apl_acts::system;
+use apl_acts::{lent, system};
 use apl_arrays::{Array, Fail, ItemsRef, Report};
-use apl_calls::call;
+use apl_calls::call_with;
 use apl_operators::{Steps, apply};
 use apl_statements::{Evaluation, Flow, Interpreter, Operands};
 use apl_values::{StackValue, array_of};
 use apl_verbs::{Verb, is_dyadic, verb_takes_axis};
-use apl_workspace::Args;
 use line_trees::Fun;
 use std::sync::ledger::Ledger;
 
@@ -47,10 +44,7 @@ pub fn perform<L: Ledger>(
     let number = axis_of(interpreter, &e, axis)?;
     match function {
         Fun::Verb(verb) => apply_verb(interpreter, e, verb, left, right, number, steps),
-        Fun::Defined(name) => {
-            let args = args_of(interpreter, &e, left, right)?;
-            call(interpreter, e, name, args)
-        }
+        Fun::Defined(name) => call_with(interpreter, e, name, left, right),
         Fun::System(name) => system(interpreter, e, name, left, right),
     }
 }
@@ -69,29 +63,6 @@ fn axis_of(
         None => Ok(None),
         Some(held) => Ok(Some(named_axis(array_of(&held, e.parts(), &interpreter.workspace))?)),
     }
-}
-
-// The arguments of a call as arrays of their own.
-fn args_of(
-    interpreter: &Interpreter,
-    e: &Evaluation,
-    left: Option<StackValue>,
-    right: StackValue,
-) -> Result<Args, Fail>
-    requires left { IfSome left (IsStackValue interpreter.now.workspace (parts_of e.now)) }
-    requires right { IsStackValue interpreter.now.workspace (parts_of e.now) right }
-    ensures ok { IfOk result (λ args. args ≡ record { left = option_map (stack_value interpreter.now.workspace (parts_of e.now)) left; right = Some (stack_value interpreter.now.workspace (parts_of e.now) right) }) }
-    ensures refused { IfErr result (λ why. why ≡ fail.WantOfMemory) }
-{
-    let right = interpreter.owned(e, right)?;
-    let left = match left {
-        None => None,
-        Some(held) => Some(interpreter.owned(e, held)?),
-    };
-    Ok(Args {
-        left,
-        right: Some(right),
-    })
 }
 
 // A primitive function, or an operator with its operands, through the one door. It counts one application. A report comes
@@ -126,21 +97,6 @@ fn apply_verb<L: Ledger>(
         steps,
     )?;
     interpreter.give(e, StackValue::Made(array))
-}
-
-// A value that is lent, where there is one.
-fn lent<'a>(
-    interpreter: &'a Interpreter,
-    e: &'a Evaluation,
-    held: Option<&'a StackValue>,
-) -> Option<&'a Array>
-    requires { IfSome (option_copied held) (IsStackValue interpreter.now.workspace (parts_of e.now)) }
-    ensures { option_copied result ≡ option_map (stack_value interpreter.now.workspace (parts_of e.now)) (option_copied held.entry) }
-{
-    match held {
-        None => None,
-        Some(held) => Some(array_of(held, e.parts(), &interpreter.workspace)),
-    }
 }
 
 // Whether a function may be applied so: with a left argument exactly where it takes two, and an axis only where one may stand.

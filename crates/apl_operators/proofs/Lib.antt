@@ -4,6 +4,7 @@ mod GatherLemmas
 mod InnerLaws
 mod LastLemmas
 mod LineLemmas
+mod LoneLemmas
 mod NumberLemmas
 mod PartLemmas
 mod ProductLemmas
@@ -15,5 +16,5 @@ mod ScanLemmas
 mod ShapeLemmas
 mod SmallLemmas
 mod TakesAllLemmas
-mod WeightLemmas
 mod WantLemmas
+mod WeightLemmas

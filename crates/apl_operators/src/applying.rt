@@ -5,17 +5,18 @@ ghost use Rattle.operator_rules.specs.Apply.{applied, mixed_dyadic_of, mixed_mon
 ghost use Rattle.apl_verbs.specs.Arguments.{is_dyadic, verb_takes_axis};
 
 use crate::inner_product::inner;
+use crate::lone::{compress_by, pair};
 use crate::outer_product::outer;
 use crate::reducing::reduce;
 use crate::scanning::scan;
 use crate::steps::Steps;
 use apl_arrays::{Array, Fail};
 use apl_display::format;
-use apl_scalar::{dyadic, monadic};
+use apl_scalar::monadic;
 use apl_search::{decode, encode, grade_down, grade_up, index_of, member};
 use apl_structure::{
-    catenate, compress, drop_items, expand, iota, ravel, reshape, reverse, rotate, shape_of, take,
-    transpose, transpose_by,
+    catenate, drop_items, expand, iota, ravel, reshape, reverse, rotate, shape_of, take, transpose,
+    transpose_by,
 };
 use apl_verbs::{Mix1, Mix2, Verb};
 use std::alloc::Global;
@@ -41,7 +42,7 @@ pub fn apply<L: Ledger>(
     steps.tick();
     match *verb {
         Verb::One(f) => monadic(alloc, f, right),
-        Verb::Two(f) => dyadic(alloc, f, left.unwrap(), right),
+        Verb::Two(f) => pair(alloc, f, left.unwrap(), right),
         Verb::Mixed1(f) => mixed_monadic(alloc, f, right, axis),
         Verb::Mixed2(f) => mixed_dyadic(alloc, f, left.unwrap(), right, axis),
         Verb::Reduce(f, way) => reduce(alloc, f, right, way, axis),
@@ -86,7 +87,7 @@ fn mixed_dyadic(
         Mix2::Drop => drop_items(alloc, a, b),
         Mix2::Rotate(way) => rotate(alloc, a, b, way, axis),
         Mix2::TransposeBy => transpose_by(alloc, a, b),
-        Mix2::Compress(way) => compress(alloc, a, b, way, axis),
+        Mix2::Compress(way) => compress_by(alloc, a, b, way, axis),
         Mix2::Expand(way) => expand(alloc, a, b, way, axis),
         Mix2::IndexOf => index_of(alloc, a, b),
         Mix2::Member => member(alloc, a, b),

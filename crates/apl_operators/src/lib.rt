@@ -7,6 +7,7 @@ mod inner_product;
 mod items;
 pub mod laws;
 mod lines;
+mod lone;
 mod outer_product;
 mod parts;
 mod products;

@@ -44,9 +44,9 @@ pub struct Evaluation {
 }
 
 impl Evaluation {
-    /// An expression from its first part on.
+    /// An expression from its first part on, with a list for its values, which is emptied.
     pub fn new(
-        alloc: Global,
+        room: Vec<StackValue>,
         place: Place,
         purpose: Purpose,
         reading: Arc<LineReading>,
@@ -58,12 +58,14 @@ impl Evaluation {
         ensures values { result.values.items ≡ [] }
         ensures there { result.is_wanting ≡ false }
     {
+        let mut values = room;
+        values.clear();
         Evaluation {
             place,
             purpose,
             reading,
             at: 0,
-            values: Vec::new(alloc),
+            values,
             is_wanting: false,
         }
     }

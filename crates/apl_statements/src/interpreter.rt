@@ -5,7 +5,7 @@ ghost use Rattle.apl_statements.specs.Interpreter.{at_rest_on};
 
 use crate::waiting::Waiting;
 use apl_arrays::{Line, LineList, List, WantOfMemory};
-use apl_values::ActPurpose;
+use apl_values::{ActPurpose, KnownLine, StackValue};
 use apl_workspace::Workspace;
 use std::alloc::Global;
 use std::marker::Model;
@@ -13,7 +13,8 @@ use std::mem;
 use sv_events::Act;
 
 /// A workspace and what is under way on it: the lines that were not taken yet, the statements that may still be begun, the
-/// line as read, and the functions under way with the innermost last. It is seen as plain data.
+/// line as read, and the functions under way with the innermost last. It is seen as plain data. Beside that it keeps an empty
+/// list of values for the next statement, and texts of which it is known how they are read.
 #[derive(Drop)]
 pub struct Interpreter {
     pub alloc: Global,
@@ -22,6 +23,8 @@ pub struct Interpreter {
     pub statements: u32,
     pub input: Line,
     pub callers: Vec<Waiting>,
+    pub room: Vec<StackValue>,
+    pub known: Vec<Option<KnownLine>>,
 }
 
 impl Model for Interpreter {
@@ -49,6 +52,8 @@ impl Interpreter {
             statements: 0,
             input: List::new(alloc),
             callers: Vec::new(alloc),
+            room: Vec::new(alloc),
+            known: Vec::new(alloc),
         }
     }
 
@@ -83,6 +88,7 @@ impl Interpreter {
     {
         self.input.renew(self.alloc, input)?;
         self.statements = statements;
+        self.known.clear();
         Ok(())
     }
 

@@ -6,6 +6,7 @@ mod flow;
 mod giving;
 mod interpreter;
 mod printing;
+mod room;
 mod waiting;
 
 pub use evaluation::{Evaluation, Operands, Purpose};

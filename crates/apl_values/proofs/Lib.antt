@@ -1,6 +1,7 @@
 pub mod Constants
 pub mod EnoughClasses
 pub mod Found
+pub mod KnownTexts
 pub mod Locals
 pub mod MadeRows
 pub mod NamingSteps

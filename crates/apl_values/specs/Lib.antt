@@ -1,4 +1,5 @@
 pub mod Classing
+pub mod Known
 pub mod Parts
 pub mod Pending
 pub mod Places

@@ -85,8 +85,8 @@ fn add_behind(classes: &mut Classes, name: Name, arguments: u8) -> Result<(), Wa
     }
 }
 
-// Whether classes tell of each name among tokens what the workspace shows.
-fn tells_all(classes: &Classes, workspace: &Workspace, tokens: &[Token]) -> bool
+/// Whether classes tell of each name among tokens what the workspace shows.
+pub fn tells_all(classes: &Classes, workspace: &Workspace, tokens: &[Token]) -> bool
     ensures { result ≡ list_all (is_token_told workspace.now classes.now.items) (map plain_token tokens.now) }
 {
     tokens

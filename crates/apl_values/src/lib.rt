@@ -4,6 +4,7 @@
 
 mod answers;
 mod classing;
+mod known;
 mod naming;
 mod part;
 mod pending;
@@ -14,6 +15,7 @@ mod values;
 
 pub use answers::{report_of, value_in};
 pub use classing::classes_for;
+pub use known::KnownLine;
 pub use naming::{Naming, names_all, naming_at, naming_count, namings_of};
 pub use part::{Part, constant};
 pub use pending::{ActPurpose, boxed, global_value};

@@ -136,8 +136,8 @@ pub fn tree_of_tokens(alloc: Global, workspace: &Workspace, tokens: &Tokens) -> 
     parsed(alloc, tokens, &classes)
 }
 
-// The tree of tokens, or SYNTAX ERROR.
-fn parsed(alloc: Global, tokens: &Tokens, classes: &Classes) -> Result<Tree, Fail>
+/// The tree of tokens, or SYNTAX ERROR.
+pub fn parsed(alloc: Global, tokens: &Tokens, classes: &Classes) -> Result<Tree, Fail>
     ensures tree { IfOk result (λ tree. parsed classes.now.items tokens.now.tokens.items tokens.now.length ≡ Ok (plain_tree tree)) }
     ensures refused { IfErr result (IsNotParsed (parsed classes.now.items tokens.now.tokens.items tokens.now.length)) }
 {

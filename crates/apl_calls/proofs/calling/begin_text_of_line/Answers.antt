@@ -22,12 +22,12 @@ returns-in_err-reading-clause-comes c =
     let n : PlainInterpreter = c.reading_of_line.new.interpreter in
     let text : List ℕ = unwrap_or (line_of_innermost m.stack c.args.number) [] in
     let why : Fail = c.in_err-reading.field-0.0 in
-    let is : n ≡ counted m = c.in_err-reading.ensures.same ∙ c.in_ok-count_statement.ensures.ok.1 in
+    let is : n ≡ counted m = c.in_err-reading.ensures.same ∙ c.in_ok-room.ensures.ok.1 in
     let refused : IsNotRead (read_with n.workspace text) why =
     subst (λ (x : PlainInterpreter). IsNotRead (read_with x.workspace text) why) (sym is)
-    (subst (λ (x : PlainInterpreter). IsNotRead (read_with x.workspace (unwrap_or (line_of_innermost x.stack c.args.number) [])) why) c.in_ok-count_statement.ensures.ok.1 c.in_err-reading.ensures.refused) in
+    (subst (λ (x : PlainInterpreter). IsNotRead (read_with x.workspace (unwrap_or (line_of_innermost x.stack c.args.number) [])) why) c.in_ok-room.ensures.ok.1 c.in_err-reading.ensures.refused) in
     let p = err_from_is_err_and c.from_residual-in_err-reading.result c.from_residual-in_err-reading.ensures.1 in
-    counted_comes m n n (text_outcome ran in_function text) c.from_residual-in_err-reading.result c.in_ok-count_statement.ensures.ok.0 is
+    counted_comes m n n (text_outcome ran in_function text) c.from_residual-in_err-reading.result c.in_ok-room.ensures.ok.0 is
     (comes_exit n n (statement_leads n (text_outcome ran in_function text)) 0 c.from_residual-in_err-reading.result p.0 why p.1 p.2 (not_read_comes n in_function text why refused))
 
 pub returns-clause-comes : goal.returns-clause-comes
@@ -35,15 +35,15 @@ returns-clause-comes c =
     let m : PlainInterpreter = c.args.interpreter.now in
     let n : PlainInterpreter = c.reading_of_line.new.interpreter in
     let text : List ℕ = unwrap_or (line_of_innermost m.stack c.args.number) [] in
-    let is : n ≡ counted m = c.in_ok-reading.ensures.same ∙ c.in_ok-count_statement.ensures.ok.1 in
+    let is : n ≡ counted m = c.in_ok-reading.ensures.same ∙ c.in_ok-room.ensures.ok.1 in
     let read : IsReadFrom n.workspace text (arc_value c.in_ok-reading.reading) =
     subst (λ (x : PlainInterpreter). IsReadFrom x.workspace text (arc_value c.in_ok-reading.reading)) (sym is)
-    (subst (λ (x : PlainInterpreter). IsReadFrom x.workspace (unwrap_or (line_of_innermost x.stack c.args.number) []) (arc_value c.in_ok-reading.reading)) c.in_ok-count_statement.ensures.ok.1 c.in_ok-reading.ensures.read) in
-    counted_comes m n n (text_outcome ran in_function text) c.begin_reading.result c.in_ok-count_statement.ensures.ok.0 is
+    (subst (λ (x : PlainInterpreter). IsReadFrom x.workspace (unwrap_or (line_of_innermost x.stack c.args.number) []) (arc_value c.in_ok-reading.reading)) c.in_ok-room.ensures.ok.1 c.in_ok-reading.ensures.read) in
+    counted_comes m n n (text_outcome ran in_function text) c.begin_reading.result c.in_ok-room.ensures.ok.0 is
     (read_comes n in_function text (arc_value c.in_ok-reading.reading) c.begin_reading.result read c.begin_reading.ensures.comes)
 
 pub returns-in_err-reading-clause-memory : goal.returns-in_err-reading-clause-memory
-returns-in_err-reading-clause-memory c = on_want c.from_residual-in_err-reading.result _ c.in_ok-count_statement.ensures.ok.0
+returns-in_err-reading-clause-memory c = on_want c.from_residual-in_err-reading.result _ c.in_ok-room.ensures.ok.0
 
 pub returns-clause-memory : goal.returns-clause-memory
-returns-clause-memory c = on_want c.begin_reading.result _ c.in_ok-count_statement.ensures.ok.0
+returns-clause-memory c = on_want c.begin_reading.result _ c.in_ok-room.ensures.ok.0

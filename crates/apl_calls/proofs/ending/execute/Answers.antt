@@ -25,16 +25,16 @@ pub returns-in_err-held-clause-memory : goal.returns-in_err-held-clause-memory
 returns-in_err-held-clause-memory c =
     let m : PlainInterpreter = c.args.interpreter.now in
     let p = err_from_is_err_and c.from_residual.result c.from_residual.ensures.1 in
-    want_exit c.from_residual.result p.0 _ (NoReportIsDue m (looked_at executes (found_in (evaluation_of m.workspace c.args.e).values))) p.1 p.2 tt
+    want_exit c.from_residual.result p.0 _ (NoReportIsDue m (looked_at executes (found_in (evaluation_of m.workspace c.args.e.now).values))) p.1 p.2 tt
 
 pub returns-in_err-text-clause-memory : goal.returns-in_err-text-clause-memory
 returns-in_err-text-clause-memory c =
     let m : PlainInterpreter = c.args.interpreter.now in
     let h : StackValue = c.in_ok-held.held in
     let v : PlainArray = c.array_of.result.now in
-    let own : v ≡ stack_value m.workspace (parts_of c.args.e) h =
-    c.array_of.ensures ∙ ap (λ (parts : List Part). stack_value c.interpreter.inside.workspace parts h) (c.parts.ensures ∙ ap parts_of c.needed.ensures.same) ∙ ap (λ (x : PlainInterpreter). stack_value x.workspace (parts_of c.args.e) h) c.interpreter.view_is in
-    let found : Found = found_in (evaluation_of m.workspace c.args.e).values in
+    let own : v ≡ stack_value m.workspace (parts_of c.args.e.now) h =
+    c.array_of.ensures ∙ ap (λ (parts : List Part). stack_value c.interpreter.inside.workspace parts h) (c.parts.ensures ∙ ap parts_of c.needed.ensures.same) ∙ ap (λ (x : PlainInterpreter). stack_value x.workspace (parts_of c.args.e.now) h) c.interpreter.view_is in
+    let found : Found = found_in (evaluation_of m.workspace c.args.e.now).values in
     let is : found ≡ Some v = c.in_ok-held.ensures.found m.workspace ∙ ap (λ (x : PlainArray). Some x) (sym own) in
     let p = err_from_is_err_and c.from_residual-in_err-text.result c.from_residual-in_err-text.ensures.1 in
     want_exit c.from_residual-in_err-text.result p.0 c.in_err-text.field-0.0 (NoReportIsDue m (looked_at executes found)) p.1 (cc p.2) (no_text_looked_at Flow m found v c.in_err-text.field-0.0 is c.in_err-text.ensures.refused)
@@ -44,9 +44,9 @@ returns-clause-memory c =
     let m : PlainInterpreter = c.args.interpreter.now in
     let h : StackValue = c.in_ok-held.held in
     let v : PlainArray = c.array_of.result.now in
-    let own : v ≡ stack_value m.workspace (parts_of c.args.e) h =
-    c.array_of.ensures ∙ ap (λ (parts : List Part). stack_value c.interpreter.inside.workspace parts h) (c.parts.ensures ∙ ap parts_of c.needed.ensures.same) ∙ ap (λ (x : PlainInterpreter). stack_value x.workspace (parts_of c.args.e) h) c.interpreter.view_is in
-    let found : Found = found_in (evaluation_of m.workspace c.args.e).values in
+    let own : v ≡ stack_value m.workspace (parts_of c.args.e.now) h =
+    c.array_of.ensures ∙ ap (λ (parts : List Part). stack_value c.interpreter.inside.workspace parts h) (c.parts.ensures ∙ ap parts_of c.needed.ensures.same) ∙ ap (λ (x : PlainInterpreter). stack_value x.workspace (parts_of c.args.e.now) h) c.interpreter.view_is in
+    let found : Found = found_in (evaluation_of m.workspace c.args.e.now).values in
     let is : found ≡ Some v = c.in_ok-held.ensures.found m.workspace ∙ ap (λ (x : PlainArray). Some x) (sym own) in
     let text : IsOk (text_of v) = subst (λ (r : Result (List ℕ) Report). IsOk r) (sym c.in_ok-text.ensures.ok) refl in
     on_want c.begin_text.result (NoReportIsDue m (looked_at executes found)) (text_looked_at m found v is text)

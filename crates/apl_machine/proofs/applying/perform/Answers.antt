@@ -1,14 +1,12 @@
-use Rattle.std.proofs.Common.{◌≡◌, ◌-◌, sym, ap, ◌∙◌, arith}
+use Rattle.std.proofs.Common.{◌≡◌, ◌-◌, ap, ◌∙◌, arith}
 use Rattle.std.specs.Prelude.{Bool, All, IfSome, Option, option_map}
 use Rattle.std.proofs.lemmas.Result.{err_from_is_err_and}
 use Rattle.apl_arrays.specs.Array.{PlainArray}
 use Rattle.apl_arrays.specs.declared.report.Fail.TheVariants as fail
 use Rattle.apl_arrays.specs.declared.report.Report.{Report}
 use Rattle.apl_arrays.specs.declared.report.Report.TheVariants.{Value}
-use Rattle.apl_workspace.specs.declared.args.Args.{Args}
 use Rattle.line_trees.specs.declared.tree.Fun.{Fun}
 use Rattle.line_trees.specs.declared.tree.Fun.TheVariants as fun
-use Rattle.apl_meaning.specs.Calls.{call}
 use Rattle.apl_meaning.specs.Expressions.{performed}
 use Rattle.apl_meaning.specs.Meaning.{ran}
 use Rattle.apl_meaning.specs.Nodes.{apply_step}
@@ -95,11 +93,14 @@ apply_verb-requires-clause-left g c = left g (goal.at.apply_verb-requires-clause
 pub apply_verb-requires-clause-right : goal.apply_verb-requires-clause-right
 apply_verb-requires-clause-right g c = right g (goal.at.apply_verb-requires-clause-right g c).In_ok-left
 
-pub args_of-requires-clause-left : goal.args_of-requires-clause-left
-args_of-requires-clause-left g c = left g (goal.at.args_of-requires-clause-left g c).In_ok-left
+pub call_with-requires-clause-sound : goal.call_with-requires-clause-sound
+call_with-requires-clause-sound g c = sound g (goal.at.call_with-requires-clause-sound g c).In_ok-left
 
-pub args_of-requires-clause-right : goal.args_of-requires-clause-right
-args_of-requires-clause-right g c = right g (goal.at.args_of-requires-clause-right g c).In_ok-left
+pub call_with-requires-clause-left : goal.call_with-requires-clause-left
+call_with-requires-clause-left g c = left g (goal.at.call_with-requires-clause-left g c).In_ok-left
+
+pub call_with-requires-clause-right : goal.call_with-requires-clause-right
+call_with-requires-clause-right g c = right g (goal.at.call_with-requires-clause-right g c).In_ok-left
 
 pub system-requires-clause-sound : goal.system-requires-clause-sound
 system-requires-clause-sound g c = sound g (goal.at.system-requires-clause-sound g c).In_ok-left
@@ -110,22 +111,17 @@ system-requires-clause-left g c = left g (goal.at.system-requires-clause-left g 
 pub system-requires-clause-right : goal.system-requires-clause-right
 system-requires-clause-right g c = right g (goal.at.system-requires-clause-right g c).In_ok-left
 
-pub call-requires : goal.call-requires
-call-requires g c = record { sound = sound g (goal.at.call-requires g c).In_ok-left }
-
 pub returns-in-Verb-clause-comes : goal.returns-in-Verb-clause-comes
 returns-in-Verb-clause-comes g c =
     comes_as c.args.interpreter.now c.args.interpreter.now (taking c.args.interpreter.now c.args.e c.args.function c.args.has_left c.args.has_axis) _ (c.apply_verb.new.steps - c.args.steps.now) c.apply_verb.result
     (performs_it g (goal.at.returns-in-Verb-clause-comes g c).In_ok-number (fun.Verb c.in-Verb.verb) c.in-Verb.is) c.apply_verb.ensures.comes
 
-pub returns-in_ok-args-in-Defined-clause-comes : goal.returns-in_ok-args-in-Defined-clause-comes
-returns-in_ok-args-in-Defined-clause-comes g c =
+pub returns-in-Defined-clause-comes : goal.returns-in-Defined-clause-comes
+returns-in-Defined-clause-comes g c =
     let m : PlainInterpreter = c.args.interpreter.now in
     let coming : Coming = taking m c.args.e c.args.function c.args.has_left c.args.has_axis in
-    none_counted m c.call.new.interpreter coming (c.args.steps.now - c.args.steps.now) c.call.result (omega arith)
-    (comes_as m c.call.new.interpreter coming (part_gives m c.take_operands.new.self (λ s. call ran c.in-Defined.name c.in_ok-args-in-Defined.args s)) 0 c.call.result (λ asked count taken further.
-    performs_it g (goal.at.returns-in_ok-args-in-Defined-clause-comes g c).In_ok-number (fun.Defined c.in-Defined.name) c.in-Defined.is asked count taken further
-    ∙ ap (λ (args : Args). part_gives m c.take_operands.new.self (λ s. call ran c.in-Defined.name args s) (state_at m asked count taken further)) (sym c.in_ok-args-in-Defined.ensures.ok)) c.call.ensures.comes)
+    none_counted m c.call_with.new.interpreter coming (c.args.steps.now - c.args.steps.now) c.call_with.result (omega arith)
+    (comes_as m c.call_with.new.interpreter coming _ 0 c.call_with.result (performs_it g (goal.at.returns-in-Defined-clause-comes g c).In_ok-number (fun.Defined c.in-Defined.name) c.in-Defined.is) c.call_with.ensures.comes)
 
 pub returns-in-System-clause-comes : goal.returns-in-System-clause-comes
 returns-in-System-clause-comes g c =

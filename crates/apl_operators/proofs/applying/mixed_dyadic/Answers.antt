@@ -30,7 +30,7 @@ pub returns-in-TransposeBy-clause-memory : goal.returns-in-TransposeBy-clause-me
 returns-in-TransposeBy-clause-memory c = subst (λ (f : Mix2). OnWantOfMemory c.transpose_by.result (IsOk (mixed_dyadic_of f c.args.a.now c.args.b.now c.args.axis))) (sym c.in-TransposeBy.is) (on_no_faults c.transpose_by.result (axes_by_faults c.args.a.now c.args.b.now) _ c.transpose_by.ensures.memory)
 
 pub returns-in-Compress-clause-memory : goal.returns-in-Compress-clause-memory
-returns-in-Compress-clause-memory c = subst (λ (f : Mix2). OnWantOfMemory c.compress.result (IsOk (mixed_dyadic_of f c.args.a.now c.args.b.now c.args.axis))) (sym c.in-Compress.is) c.compress.ensures.memory
+returns-in-Compress-clause-memory c = subst (λ (f : Mix2). OnWantOfMemory c.compress_by.result (IsOk (mixed_dyadic_of f c.args.a.now c.args.b.now c.args.axis))) (sym c.in-Compress.is) c.compress_by.ensures.memory
 
 pub returns-in-Expand-clause-memory : goal.returns-in-Expand-clause-memory
 returns-in-Expand-clause-memory c = subst (λ (f : Mix2). OnWantOfMemory c.expand.result (IsOk (mixed_dyadic_of f c.args.a.now c.args.b.now c.args.axis))) (sym c.in-Expand.is) c.expand.ensures.memory

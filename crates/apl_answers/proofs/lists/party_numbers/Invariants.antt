@@ -1,6 +1,6 @@
 use Rattle.std.proofs.Common.{◌≡◌, take}
 use Rattle.std.specs.Prelude.{map, pos}
-use Rattle.apl_answers.proofs.lists.list_parties.Given as goal
+use Rattle.apl_answers.proofs.lists.party_numbers.Given as goal
 
 -- the parties so far
 abbrev pub invariant-loop-party : goal.invariant-loop-party

@@ -7,7 +7,7 @@ use Rattle.apl_statements.specs.Interpreter.{PlainInterpreter, here}
 use Rattle.apl_statements.specs.Sound.{plain_interpreter}
 use Rattle.apl_calls.proofs.Entered.{entered_does, entered_seen, entered_soundly}
 use Rattle.apl_calls.proofs.Enters.{arguments_for, entered_by}
-use Rattle.apl_calls.proofs.calling.enter.Goals as goal
+use Rattle.apl_calls.proofs.entry.enter.Goals as goal
 
 pub push_frame-requires : goal.push_frame-requires
 push_frame-requires c = arguments_for (look c.interpreter.inside.workspace c.args.name) c.args.args (subst (λ (x : PlainInterpreter). takes_by (look x.workspace c.args.name) c.args.args ≡ true) (sym c.interpreter.view_is) c.requires.takes)
