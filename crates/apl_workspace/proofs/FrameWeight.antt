@@ -1,10 +1,10 @@
 -- What the frame of a function weighs.
-use Rattle.std.proofs.Common.{◌≡◌, ℕ, ◌+◌, Bool, true, false, cond, not, List, [], ◌∷◌, ◌++◌, Option, Some, None, refl, sym, ap, ◌∙◌, append_assoc, arith}
+use Rattle.std.proofs.Common.{◌≡◌, ℕ, ◌+◌, Bool, true, false, cond, List, [], ◌∷◌, ◌++◌, Option, Some, None, refl, sym, ap, ◌∙◌, append_assoc, arith}
 use Rattle.std.specs.Prelude.{is_some, unwrap_or}
 use Rattle.std.specs.List.{list_any}
 use Rattle.std.specs.Map.{keys_of, values_of}
 use Rattle.std.specs.Option.{option_map, option_to_list}
-use Rattle.std.proofs.lemmas.Bool.{and_parts, or_parts}
+use Rattle.std.proofs.lemmas.Bool.{or_parts}
 use Rattle.std.proofs.lemmas.List.Sums.{sum_by-cons}
 use Rattle.std.proofs.lemmas.Map.Keys.{sorted_tail}
 use Rattle.apl_arrays.specs.Array.{PlainArray}
@@ -24,7 +24,7 @@ use Rattle.apl_workspace.proofs.Ascending.{Ascend, behind_by, first_found, found
 use Rattle.apl_workspace.proofs.FrameLaw.{header_ascends, labels_first, line_or, lines_ascend}
 use Rattle.apl_workspace.proofs.HeaderLaw.{header_is_computed}
 use Rattle.apl_workspace.proofs.Looks.{header_found}
-use Rattle.apl_workspace.proofs.NameLaw.{from_not, name_flips, own_name}
+use Rattle.apl_workspace.proofs.NameLaw.{first_differs, name_flips, own_name}
 use Rattle.apl_workspace.proofs.Tables.{weight_without}
 
 -- what something weighs that was found, or was not
@@ -44,7 +44,8 @@ weighs_nothing (e ∷ es) s none =
     behind name true p = ap weight_of (behind_by true name e es p s)
     behind name false p = ap weight_of (behind_by false name e es p s) ∙ none name
 
-left_out : (names : NameTable) (first name : List ℕ) (b : Bool) → Ascend (keys_of names) → same_name first name ≡ b → weight_in (without_name names first) name ≡ cond b 0 (weight_in names name)
+-- a name that was taken out weighs nothing, and all others what they did
+pub left_out : (names : NameTable) (first name : List ℕ) (b : Bool) → Ascend (keys_of names) → same_name first name ≡ b → weight_in (without_name names first) name ≡ cond b 0 (weight_in names name)
 left_out names first name true s p = ap weight_of (found_without names first name s ∙ ap (λ (b : Bool). cond b None (meaning_in names name)) p)
 left_out names first name false s p = ap weight_of (found_without names first name s ∙ ap (λ (b : Bool). cond b None (meaning_in names name)) p)
 
@@ -118,13 +119,6 @@ at_right label local right left l r e f = ap (λ (b : Bool). by_tests label b ri
 at_left : (label local right left : Bool) (l r : ℕ) → local ≡ false → right ≡ false → left ≡ true → by_tests label local right left l r ≡ cond label 0 l
 at_left label local right left l r e f g = ap (λ (b : Bool). by_tests label b right left l r) e ∙ ap (λ (b : Bool). by_tests label false b left l r) f ∙ ap (λ (b : Bool). by_tests label false false b l r) g
 
--- the first of names that differ is none of the others
-first_apart : (first : List ℕ) (names : List (List ℕ)) → all_differ (first ∷ names) ≡ true → (list_any (same_name first) names ≡ false) × (all_differ names ≡ true)
-unfolding all_differ
-first_apart first names e =
-    let parts = and_parts (not (list_any (same_name first) names)) (all_differ names) e in
-    (from_not (list_any (same_name first) names) parts.0, parts.1)
-
 parts_weigh : (labels : List LabelledLine) (left right : Option (List ℕ)) (more : List (List ℕ)) (l r : Option PlainArray) (frame : NameTable) → Ascend (keys_of frame) → all_differ (option_to_list left ++ (option_to_list right ++ more)) ≡ true
     → ((name : List ℕ) → weight_in frame name ≡ by_tests (is_some (line_among labels name)) (list_any (same_name name) more) (named right name) (named left name) (meaning_weight (meaning_of l)) (meaning_weight (meaning_of r)))
     → argument_weight labels left l + argument_weight labels right r ≡ table_weight frame
@@ -133,18 +127,18 @@ parts_weigh labels None None more l r frame s differ is =
 parts_weigh labels None (Some b) more l r frame s differ is =
     let lw = meaning_weight (meaning_of l) in
     let rw = meaning_weight (meaning_of r) in
-    let own = is b ∙ at_right (is_some (line_among labels b)) (list_any (same_name b) more) (same_name b b) false lw rw (first_apart b more differ).0 (own_name b) in
+    let own = is b ∙ at_right (is_some (line_among labels b)) (list_any (same_name b) more) (same_name b b) false lw rw (first_differs b more differ).0 (own_name b) in
     omega (arith, one_name frame b s (λ name e. is name ∙ at_none (is_some (line_among labels name)) (list_any (same_name name) more) (same_name b name) false lw rw e refl), own)
 parts_weigh labels (Some a) None more l r frame s differ is =
     let lw = meaning_weight (meaning_of l) in
     let rw = meaning_weight (meaning_of r) in
-    let own = is a ∙ at_left (is_some (line_among labels a)) (list_any (same_name a) more) false (same_name a a) lw rw (first_apart a more differ).0 refl (own_name a) in
+    let own = is a ∙ at_left (is_some (line_among labels a)) (list_any (same_name a) more) false (same_name a a) lw rw (first_differs a more differ).0 refl (own_name a) in
     omega (arith, one_name frame a s (λ name e. is name ∙ at_none (is_some (line_among labels name)) (list_any (same_name name) more) false (same_name a name) lw rw refl e), own)
 parts_weigh labels (Some a) (Some b) more l r frame s differ is =
     let lw = meaning_weight (meaning_of l) in
     let rw = meaning_weight (meaning_of r) in
-    let first = first_apart a (b ∷ more) differ in
-    let second = first_apart b more first.1 in
+    let first = first_differs a (b ∷ more) differ in
+    let second = first_differs b more first.1 in
     let apart = or_parts (same_name a b) (list_any (same_name a) more) first.0 in
     let left_own = is a ∙ at_left (is_some (line_among labels a)) (list_any (same_name a) more) (same_name b a) (same_name a a) lw rw apart.1 (name_flips b a ∙ apart.0) (own_name a) in
     let right_own = is b ∙ at_right (is_some (line_among labels b)) (list_any (same_name b) more) (same_name b b) (same_name a b) lw rw second.0 (own_name b) in
@@ -159,7 +153,7 @@ frame_weighs function args labels h is =
     let right = option_to_list header.right in
     let outcome = option_to_list header.result in
     let locals = outcome ++ header.locals in
-    let differ = (first_apart header.name (left ++ right ++ outcome ++ header.locals) ((header_is_computed function.text header).1 is.header).differ).1 in
+    let differ = (first_differs header.name (left ++ right ++ outcome ++ header.locals) ((header_is_computed function.text header).1 is.header).differ).1 in
     let parts = append_assoc (left ++ right) outcome header.locals ∙ append_assoc left right locals in
     parts_weigh labels header.left header.right locals args.left args.right (frame_of function args) (lines_ascend 1 function.lines (header_names header args) (header_ascends header args)) (sym (ap all_differ parts) ∙ differ)
     (λ name. name_weighs function.lines labels header args name h)
