@@ -1,6 +1,6 @@
 -- What stands under each name after a merge.
 use Rattle.std.proofs.Common.{◌≡◌, ℕ, Bool, true, false, cond, not, ◌&&◌, ◌||◌, List, [], ◌∷◌, ◌++◌, Option, Some, None, refl, sym, ap, subst, ◌∙◌}
-use Rattle.std.specs.Prelude.{fold, is_some, unwrap_or}
+use Rattle.std.specs.Prelude.{filter, fold, is_some, unwrap_or}
 use Rattle.std.specs.List.{list_any}
 use Rattle.std.proofs.Math.Bool.{or-false}
 use Rattle.std.proofs.lemmas.Bool.{and_parts, false≢true}
@@ -15,7 +15,7 @@ use Rattle.apl_workspace.specs.declared.meaning.Meaning.TheVariants.{Nothing, Va
 use Rattle.apl_workspace.proofs.Ascending.{found_with}
 use Rattle.apl_workspace.proofs.NameLaw.{differ_push, from_not, name_flips, none_differ, own_name, equal_names}
 use Rattle.apl_workspace.proofs.Without.{found_without_all}
-use Rattle.apl_execute.specs.Merge.{asked, copied_as, copied_names, copy_in, each_once, is_copied, merged, with_copies, with_name_copied, with_mention}
+use Rattle.apl_execute.specs.Merge.{asked, copied_as, copy_in, each_once, is_copied, merged, with_copies, with_mention, with_name_copied, with_names}
 
 -- ---- names that are put in
 
@@ -58,16 +58,21 @@ there_by true true false free copy was e = absurd (false≢true (sym e))
 there_by true false there free copy was e = refl
 there_by false among there free copy was e = refl
 
-pub merged_found : (into from : PlainWorkspace) (names : Option (List (List ℕ))) (name : List ℕ) → IsWorkspace into
-    → meaning_in (merged into from names).globals name ≡ cond (is_copied into from name && list_any (same_name name) (asked from names)) (copy_in from name) (meaning_in into.globals name)
-merged_found into from names name h =
-    let copied = copied_names into from names in
-    let among : list_any (same_name name) copied ≡ (is_copied into from name && list_any (same_name name) (asked from names)) =
-    any-filter_same (same_name name) (is_copied into from) (is_copied into from name) (λ other e. ap (is_copied into from) (sym (equal_names name other e))) (asked from names) in
+-- what stands under a name once those of some names that may be copied are
+pub found_copied : (into from : PlainWorkspace) (names : List (List ℕ)) (name : List ℕ) → IsWorkspace into
+    → meaning_in (with_names into from (filter (is_copied into from) names)).globals name ≡ cond (is_copied into from name && list_any (same_name name) names) (copy_in from name) (meaning_in into.globals name)
+found_copied into from names name h =
+    let copied = filter (is_copied into from) names in
+    let among : list_any (same_name name) copied ≡ (is_copied into from name && list_any (same_name name) names) =
+    any-filter_same (same_name name) (is_copied into from) (is_copied into from name) (λ other e. ap (is_copied into from) (sym (equal_names name other e))) names in
     copies_found from (without_names into.globals copied) copied name
     ∙ ap (λ (o : Option Meaning). cond (list_any (same_name name) copied && is_some (copy_in from name)) (copy_in from name) o) (found_without_all into.globals copied name h.ascending)
     ∙ ap (λ (b : Bool). cond (b && is_some (copy_in from name)) (copy_in from name) (cond b None (meaning_in into.globals name))) among
-    ∙ there_by (is_copied into from name) (list_any (same_name name) (asked from names)) (is_some (copy_in from name)) (not (is_shared into name)) (copy_in from name) (meaning_in into.globals name) refl
+    ∙ there_by (is_copied into from name) (list_any (same_name name) names) (is_some (copy_in from name)) (not (is_shared into name)) (copy_in from name) (meaning_in into.globals name) refl
+
+pub merged_found : (into from : PlainWorkspace) (names : Option (List (List ℕ))) (name : List ℕ) → IsWorkspace into
+    → meaning_in (merged into from names).globals name ≡ cond (is_copied into from name && list_any (same_name name) (asked from names)) (copy_in from name) (meaning_in into.globals name)
+merged_found into from names name h = found_copied into from (asked from names) name h
 
 -- nothing is copied as a share
 unmarked : (meaning : Meaning) → is_shared_meaning (unwrap_or (copied_as meaning) Nothing) ≡ false

@@ -4,6 +4,7 @@
 pub mod laws;
 mod merging;
 mod text;
+mod weighing;
 
 pub use merging::{Merged, merge};
 pub use text::text_of;

@@ -8,6 +8,7 @@ ghost use Rattle.apl_workspace.specs.Seen.{plain_seen};
 ghost use Rattle.apl_workspace.specs.Workspace.{IsFull, is_shared, workspace_weight};
 ghost use Rattle.apl_execute.specs.Merge.{IsNotMerged, asked, copied_as, copy_in, each_once, is_copied, is_kept, is_missing, merged, with_copies, with_name_copied, with_names};
 
+use crate::weighing::fits;
 use apl_arrays::{Fail, List, Name, NameList, Report, WantOfMemory};
 use apl_workspace::{Seen, Workspace};
 use std::alloc::Global;
@@ -23,8 +24,9 @@ pub struct Merged {
 }
 
 /// Copies names of one workspace into another: those asked for, each once, or all. `WsFull` where the workspace would weigh
-/// more than it may with all of them. Marks, offers and all other names are as they were. It takes memory for the workspace
-/// and the lists of names.
+/// more than it may with all of them, also where there is no memory. Marks, offers and all other names are as they were. It
+/// takes memory for the workspace and the lists of names.
+#[tactic(auto, using(crate::proofs::Weights::wants_memory))]
 pub fn merge(
     alloc: Global,
     into: &Workspace,
@@ -37,8 +39,11 @@ pub fn merge(
     ensures fits { OnOk result (workspace_weight (merged into.now from.now (option_map (λ asked. asked.now.items) names.entry)) ≤ most_weight) }
     ensures missing { IfOk result (λ done. done.missing.items ≡ filter (is_missing from.now) (asked from.now (option_map (λ asked. asked.now.items) names.entry))) }
     ensures shared { IfOk result (λ done. done.shared.items ≡ filter (is_kept into.now from.now) (asked from.now (option_map (λ asked. asked.now.items) names.entry))) }
-    ensures full { IfErr result (IsNotMerged (merged into.now from.now (option_map (λ asked. asked.now.items) names.entry))) }
+    ensures full { IfErr result (IsFull (merged into.now from.now (option_map (λ asked. asked.now.items) names.entry))) }
 {
+    if !fits(into, from, names) {
+        return Err(Fail::Report(Report::WsFull));
+    }
     let asked = asked(alloc, from, names)?;
     let copied = copied(alloc, into, from, asked.as_slice())?;
     Ok(Merged {
@@ -89,8 +94,8 @@ fn mention(list: &mut NameList, new: bool, name: Name) -> Result<(), WantOfMemor
     Ok(())
 }
 
-// Whether something is copied of a global.
-fn has_copy(seen: Seen<'_>) -> bool
+/// Whether something is copied of a global.
+pub fn has_copy(seen: Seen<'_>) -> bool
     ensures { result ≡ is_some (copied_as (plain_seen seen.entry)) }
 {
     match seen {
