@@ -118,11 +118,11 @@ pub shallow : (most n : ℕ) → leb most n ≡ false → n < most
 shallow most n e = grind (arith, nat_tests)
 
 no_call : (seen : Meaning) (name : List ℕ) (args : Args) (s : State) → takes_by seen args ≡ false → call_by ran seen name args s ≡ refuses Syntax s
-no_call meaning.Nothing name args s no = refl
-no_call (meaning.Value value) name args s no = refl
-no_call (meaning.Function function) name args s no = ap (λ (b : Bool). if b then called ran function name args s else refuses Syntax s) no
-no_call (meaning.Label line) name args s no = refl
-no_call (meaning.Shared copy) name args s no = refl
+no_call meaning.Nothing name args s other = refl
+no_call (meaning.Value value) name args s other = refl
+no_call (meaning.Function function) name args s other = ap (λ (b : Bool). if b then called ran function name args s else refuses Syntax s) other
+no_call (meaning.Label line) name args s other = refl
+no_call (meaning.Shared copy) name args s other = refl
 
 -- a function that is not called ends the line
 pub not_called : (m : PlainInterpreter) (e : Evaluation) (name : List ℕ) (args : Args) (why : Report) (takes : Bool) → takes ≡ takes_by (look m.workspace name) args → IsNotCalled takes (length m.workspace.frames) why

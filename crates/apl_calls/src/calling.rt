@@ -21,7 +21,7 @@ ghost use Rattle.apl_statements.specs.declared.flow.Flow.TheVariants as flow;
 ghost use Rattle.apl_calls.specs.Ended.{line_behind};
 ghost use Rattle.apl_calls.specs.Waitings.{standing_on};
 
-use crate::seen::{following, takes, value_seen};
+use crate::seen::{following, value_seen};
 use crate::waiting::{function_of, header_of, keep, line_numbered, stand_at};
 use apl_arrays::{Array, Fail, Line, Report, WantOfMemory};
 use apl_statements::{Evaluation, Flow, Interpreter, Next, Purpose};

@@ -1,4 +1,4 @@
-use Rattle.std.proofs.Common.{true, sym, ap, subst, ◌∙◌}
+use Rattle.std.proofs.Common.{sym, ap, subst, ◌∙◌}
 use Rattle.std.specs.Prelude.{Ok, map}
 use Rattle.apl_workspace.specs.Workspace.{empty_workspace, look}
 use Rattle.apl_meaning.specs.Calls.{call}
