@@ -261,8 +261,7 @@ fn index_value(interpreter: &Interpreter, e: Evaluation, places: &Places) -> Res
             Err(Fail::Report(report))
         }
         None => {
-            let subs =
-                e.take_subs(interpreter.alloc, places.as_slice(), &interpreter.workspace)?;
+            let subs = e.take_subs(interpreter.alloc, places.as_slice(), &interpreter.workspace)?;
             let array = index(
                 interpreter.alloc,
                 array_of(&held, e.parts(), &interpreter.workspace),
