@@ -1,6 +1,6 @@
 -- Items of a value are replaced, and values that were got.
-use Rattle.std.proofs.Common.{◌≡◌, ◌<◌, ◌≤◌, ◌+◌, ◌-◌, ℕ, Bool, true, false, cond, List, [], ◌∷◌, length, refl, sym, ap, ◌∙◌, arith}
-use Rattle.std.specs.Prelude.{◌≢◌, Option, Some, None, Ok, Err, count_by, if◌then◌else◌, is_some, map, nat_lt}
+use Rattle.std.proofs.Common.{◌≡◌, ◌<◌, ◌≤◌, ◌+◌, ◌-◌, ℕ, Bool, true, false, cond, List, [], ◌∷◌, length, refl, sym, ap, subst, ◌∙◌, arith}
+use Rattle.std.specs.Prelude.{Option, Some, None, Ok, Err, IfSome, count_by, if◌then◌else◌, is_some, map, nat_lt}
 use Rattle.std.proofs.lemmas.Bool.{false≢true}
 use Rattle.std.proofs.lemmas.Bool.Decides.{nat_tests}
 use Rattle.std.proofs.lemmas.List.{length-map, length-reverse}
@@ -10,9 +10,9 @@ use Rattle.apl_arrays.specs.declared.report.Fail.{Fail}
 use Rattle.apl_arrays.specs.declared.report.Fail.TheVariants as fail
 use Rattle.apl_arrays.specs.declared.report.Report.{Report}
 use Rattle.apl_arrays.specs.declared.report.Report.TheVariants.{Syntax, Value}
-use Rattle.apl_items.specs.Answers.{ArrayResult, Answers}
-use Rattle.apl_selection.specs.Assignment.{assign_of}
-use Rattle.apl_workspace.specs.Workspace.{is_assignable, look}
+use Rattle.apl_items.specs.Answers.{ArrayResult, Answers, first_report, unless}
+use Rattle.apl_selection.specs.Assignment.{assign_faults, assign_of, overlaid_array}
+use Rattle.apl_workspace.specs.Workspace.{PlainWorkspace, is_assignable, look}
 use Rattle.apl_workspace.specs.declared.meaning.Meaning.{Meaning}
 use Rattle.apl_workspace.specs.declared.meaning.Meaning.TheVariants as meaning
 use Rattle.apl_meaning.specs.Answers.{got, with_copy}
@@ -32,6 +32,8 @@ use Rattle.apl_statements.proofs.Opened.{use_opens}
 use Rattle.apl_statements.proofs.Same.{SameAt, at_once}
 use Rattle.apl_statements.proofs.Steps.{grouped}
 use Rattle.apl_statements.proofs.Taken.{items_take, items_where}
+use Rattle.apl_subscripts.specs.Held.{MayBeReplaced, behind_subs, replacing_report, subs_held}
+use Rattle.apl_answers.proofs.Wanting.{unless_none}
 
 -- items of the value that a name has
 pub value_replaced : (m : PlainInterpreter) (e : Evaluation) (name : List ℕ) (subs : List (Option PlainArray)) (right old : PlainArray) → SameAt m (part_gives m e (items_where (meaning.Value old) name subs right)) (part_gives m e (replaced name subs right old))
@@ -135,12 +137,24 @@ step_by_count name places all s false code is =
     let left : length (popped places all).values ≡ length all - count_by is_some places = popped_length places all in
     step_of_none name (popped places all).subs (popped places all).values s (omega (arith, few, left))
 
+-- as many values as are held
+many_held : (w : PlainWorkspace) (e : Evaluation) → length e.values.items ≡ length (stack_values w e)
+many_held w e = sym (length-reverse (map (stack_value w (parts_of e)) e.values.items) ∙ length-map e.values.items (stack_value w (parts_of e)))
+
+share_by_count : (given all : ℕ) (why : Report) (b : Bool) → nat_lt given all ≡ b → Some why ≡ (if b then None else Some Value) → (why ≡ Value) × (all ≤ given)
+share_by_count given all why true is e = absurd (let no_report : Some why ≡ None = e in cc)
+share_by_count given all why false is e = let same : why ≡ Value = cc in (same, not_below given all is)
+
+some_by_count : (given all : ℕ) (b : Bool) → nat_lt given all ≡ b → None ≡ (if b then None else Some Value) → given < all
+some_by_count given all true is e = below given all is
+some_by_count given all false is e = absurd (let no_report : None ≡ Some Value = e in cc)
+
 -- the line ends, by SYNTAX ERROR where there is a right side
 pub items_of_code : (m : PlainInterpreter) (e : Evaluation) (name : List ℕ) (places : List (Option ℕ)) (why : Report) → is_assignable (look m.workspace name) ≡ false → why ≡ (if nat_lt (count_by is_some places) (length e.values.items) then Syntax else Value)
     → Comes m (part_takes m e (λ values. items_step name (popped places values).subs (popped places values).values)) 0 m (Err (fail.Report why))
 items_of_code m e name places why code is =
     let all : List PlainArray = stack_values m.workspace e in
-    let many : length e.values.items ≡ length all = sym (length-reverse (map (stack_value m.workspace (parts_of e)) e.values.items) ∙ length-map e.values.items (stack_value m.workspace (parts_of e))) in
+    let many : length e.values.items ≡ length all = many_held m.workspace e in
     let same : why ≡ (if nat_lt (count_by is_some places) (length all) then Syntax else Value) = is ∙ ap (λ (n : ℕ). if nat_lt (count_by is_some places) n then Syntax else Value) many in
     at_once m (part_takes m e (λ values. items_step name (popped places values).subs (popped places values).values)) (λ s. refuses why s) (λ asked count taken further.
     let s : State = state_at m asked count taken further in
@@ -148,9 +162,67 @@ items_of_code m e name places why code is =
     (step_by_count name places all s (nat_lt (count_by is_some places) (length all)) code refl)
     ∙ ap (λ (r : Report). refuses r s) (sym same))
 
--- a name that has a value, or is shared, takes items
-pub value_takes_items : (seen : Meaning) (value : PlainArray) → seen ≡ meaning.Value value → (seen ≢ meaning.Nothing) × (is_assignable seen ≡ true)
-value_takes_items seen value is = ((λ (nothing : seen ≡ meaning.Nothing). let no : meaning.Value value ≡ meaning.Nothing = sym is ∙ nothing in cc), ap is_assignable is)
+-- ---- items of a shared name, and of a value
 
-pub share_takes_items : (seen : Meaning) (copy : Option PlainArray) → seen ≡ meaning.Shared copy → (seen ≢ meaning.Nothing) × (is_assignable seen ≡ true)
-share_takes_items seen copy is = ((λ (nothing : seen ≡ meaning.Nothing). let no : meaning.Shared copy ≡ meaning.Nothing = sym is ∙ nothing in cc), ap is_assignable is)
+-- a shared name has a right side, or the line ends by VALUE ERROR
+items_of_share : (m : PlainInterpreter) (e : Evaluation) (name : List ℕ) (places : List (Option ℕ)) (why : Report) → Some why ≡ (if nat_lt (count_by is_some places) (length e.values.items) then None else Some Value)
+    → Comes m (part_takes m e (λ values. items_step name (popped places values).subs (popped places values).values)) 0 m (Err (fail.Report why))
+items_of_share m e name places why is =
+    let all : List PlainArray = stack_values m.workspace e in
+    let many : length e.values.items ≡ length all = many_held m.workspace e in
+    let none = share_by_count (count_by is_some places) (length all) why (nat_lt (count_by is_some places) (length all)) refl (is ∙ ap (λ (n : ℕ). if nat_lt (count_by is_some places) n then None else Some Value) many) in
+    let left : length (popped places all).values ≡ length all - count_by is_some places = popped_length places all in
+    let few : length all ≤ count_by is_some places = none.1 in
+    at_once m (part_takes m e (λ values. items_step name (popped places values).subs (popped places values).values)) (λ s. refuses why s) (λ asked count taken further.
+    let s : State = state_at m asked count taken further in
+    ap (λ (o : Outcome Values). and_then o (λ values t. onward (record (evaluation_of m.workspace e) { values = values }) m.stack t))
+    (step_of_none name (popped places all).subs (popped places all).values s (omega (arith, few, left)))
+    ∙ ap (λ (r : Report). refuses r s) (sym none.0))
+
+-- the same of what is told, if anything is
+pub told_of_share : (m : PlainInterpreter) (e : Evaluation) (name : List ℕ) (places : List (Option ℕ)) (told : Option Report) → told ≡ (if nat_lt (count_by is_some places) (length e.values.items) then None else Some Value)
+    → IfSome told (λ why. Comes m (part_takes m e (λ values. items_step name (popped places values).subs (popped places values).values)) 0 m (Err (fail.Report why)))
+told_of_share m e name places None is = tt
+told_of_share m e name places (Some why) is = items_of_share m e name places why is
+
+shared_there : (seen : Meaning) (copy : Option PlainArray) (subs : List (Option PlainArray)) (values : List PlainArray) → seen ≡ meaning.Shared copy → 0 < length values → MayBeReplaced seen subs values
+shared_there seen copy subs [] is some = absurd (omega (arith, some))
+shared_there seen copy subs (right ∷ values) is some = subst (λ (x : Meaning). MayBeReplaced x subs (right ∷ values)) (sym is) tt
+
+pub share_takes_items : (m : PlainInterpreter) (e : Evaluation) (name : List ℕ) (places : List (Option ℕ)) (copy : Option PlainArray) → look m.workspace name ≡ meaning.Shared copy → None ≡ (if nat_lt (count_by is_some places) (length e.values.items) then None else Some Value)
+    → MayBeReplaced (look m.workspace name) (subs_held m.workspace e places) (behind_subs m.workspace e places)
+share_takes_items m e name places copy seen is =
+    let all : List PlainArray = stack_values m.workspace e in
+    let many : length e.values.items ≡ length all = many_held m.workspace e in
+    let more : count_by is_some places < length all =
+    some_by_count (count_by is_some places) (length all) (nat_lt (count_by is_some places) (length all)) refl (is ∙ ap (λ (n : ℕ). if nat_lt (count_by is_some places) n then None else Some Value) many) in
+    let left : length (popped places all).values ≡ length all - count_by is_some places = popped_length places all in
+    shared_there (look m.workspace name) copy (subs_held m.workspace e places) (behind_subs m.workspace e places) seen (omega (arith, more, left))
+
+step_of_value : (name : List ℕ) (subs : List (Option PlainArray)) (values : List PlainArray) (old : PlainArray) (why : Report) (s : State) → look s.workspace name ≡ meaning.Value old → Some why ≡ replacing_report old subs values → items_step name subs values s ≡ refuses why s
+step_of_value name subs [] old why s seen is = let value : why ≡ Value = cc in ap (λ (r : Report). refuses r s) (sym value)
+step_of_value name subs (right ∷ values) old why s seen is =
+    ap (λ (x : Meaning). leaving_values values (items_where x name subs right s)) seen
+    ∙ ap (λ (r : Option Report). leaving_values values (and_then (and_then (outcome_of (unless r (overlaid_array old subs right)) s) (λ new t. assignment name new t)) (λ _ t. gives (Some right) t))) (sym is)
+
+-- something is wrong with items of a value, and the line ends
+items_of_value : (m : PlainInterpreter) (e : Evaluation) (name : List ℕ) (places : List (Option ℕ)) (old : PlainArray) (why : Report) → look m.workspace name ≡ meaning.Value old → Some why ≡ replacing_report old (subs_held m.workspace e places) (behind_subs m.workspace e places)
+    → Comes m (part_takes m e (λ values. items_step name (popped places values).subs (popped places values).values)) 0 m (Err (fail.Report why))
+items_of_value m e name places old why seen is =
+    at_once m (part_takes m e (λ values. items_step name (popped places values).subs (popped places values).values)) (λ s. refuses why s) (λ asked count taken further.
+    ap (λ (o : Outcome Values). and_then o (λ values t. onward (record (evaluation_of m.workspace e) { values = values }) m.stack t))
+    (step_of_value name (subs_held m.workspace e places) (behind_subs m.workspace e places) old why (state_at m asked count taken further) seen is))
+
+-- the same of what is told, if anything is
+pub told_of_value : (m : PlainInterpreter) (e : Evaluation) (name : List ℕ) (places : List (Option ℕ)) (old : PlainArray) (told : Option Report) → look m.workspace name ≡ meaning.Value old → told ≡ replacing_report old (subs_held m.workspace e places) (behind_subs m.workspace e places)
+    → IfSome told (λ why. Comes m (part_takes m e (λ values. items_step name (popped places values).subs (popped places values).values)) 0 m (Err (fail.Report why)))
+told_of_value m e name places old None seen is = tt
+told_of_value m e name places old (Some why) seen is = items_of_value m e name places old why seen is
+
+may_be_put : (old : PlainArray) (subs : List (Option PlainArray)) (values : List PlainArray) → None ≡ replacing_report old subs values → MayBeReplaced (meaning.Value old) subs values
+may_be_put old subs [] none = absurd (let no_report : None ≡ Some Value = none in cc)
+may_be_put old subs (right ∷ values) none = unless_none (first_report (assign_faults old subs right)) (overlaid_array old subs right) (sym none)
+
+-- or nothing is
+pub value_takes_items : (seen : Meaning) (old : PlainArray) (subs : List (Option PlainArray)) (values : List PlainArray) → seen ≡ meaning.Value old → None ≡ replacing_report old subs values → MayBeReplaced seen subs values
+value_takes_items seen old subs values is none = subst (λ (x : Meaning). MayBeReplaced x subs values) (sym is) (may_be_put old subs values none)

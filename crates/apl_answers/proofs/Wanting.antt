@@ -53,7 +53,8 @@ given_takes m n name value (meaning.Label line) is done =
     absurd (subst (λ (o : Outcome (Unit {0})). IsNoReport o) (sym (ap (λ (x : Meaning). assignment_by x name value s) (sym is) ∙ done.same [] 0 [] [])) (tt {0}))
 given_takes m n name value (meaning.Shared copy) is done = refl
 
-unless_none : (report : Option Report) (array : PlainArray) → report ≡ None → IsOk (unless report array)
+-- an array where there is no report
+pub unless_none : (report : Option Report) (array : PlainArray) → report ≡ None → IsOk (unless report array)
 unless_none None array none = refl
 unless_none (Some report) array none = absurd (let no : Some report ≡ None = none in cc)
 

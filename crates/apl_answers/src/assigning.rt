@@ -1,4 +1,4 @@
-ghost use Rattle.std.specs.Prelude.{◌≡◌, ◌≢◌, ◌≤◌, ◌∷◌, List, Some, None, Err, true, false, if◌then◌else◌, IfErr, IfOk, IfSome, IsOk, count_by, is_some, length, nat_lt, unwrap_or};
+ghost use Rattle.std.specs.Prelude.{◌≡◌, ◌≤◌, ◌∷◌, List, Some, None, Err, true, false, if◌then◌else◌, IfErr, IfOk, IfSome, IsOk, count_by, is_some, length, nat_lt, unwrap_or};
 ghost use Rattle.std.specs.Option.{option_copied};
 ghost use Rattle.apl_workspace.specs.Limits.{most_weight};
 ghost use Rattle.apl_workspace.specs.Meaning.{is_shared_meaning, shared_copy};
@@ -13,14 +13,16 @@ ghost use Rattle.apl_meaning.specs.Nodes.{assign_step, items_step, popped};
 ghost use Rattle.apl_values.specs.Pending.{assigned_giving, replaced};
 ghost use Rattle.apl_values.specs.Values.{IsStackValue, stack_value};
 ghost use Rattle.apl_statements.specs.Moves.{Comes, part_gives, part_takes};
-ghost use Rattle.apl_statements.specs.Sound.{IsCaller, IsFlow};
+ghost use Rattle.apl_statements.specs.Sound.{IsCaller, IsEvaluation, IsFlow};
 ghost use Rattle.apl_statements.specs.Holding.{parts_of, stack_value_given, stack_values};
 ghost use Rattle.apl_statements.specs.Work.{StaysWithin};
+ghost use Rattle.apl_subscripts.specs.Held.{MayBeReplaced, behind_subs, subs_held};
 
 use crate::changing::{assign_value, not_assigned};
 use apl_arrays::{Array, Fail, Name, Report, WantOfMemory};
 use apl_selection::{Subs, index_assign};
 use apl_statements::{Evaluation, Flow, Interpreter};
+use apl_subscripts::{given_count, replacing_report};
 use apl_values::{ActPurpose, StackValue, array_of};
 use apl_workspace::Seen;
 use line_trees::Places;
@@ -115,8 +117,8 @@ pub fn put(
 }
 
 /// Items of a name are replaced: its value with these items replaced is assigned to it. A shared name is used, and
-/// then set. VALUE ERROR for a name that stands for nothing, SYNTAX ERROR for a label or a function, each also where there is no
-/// memory.
+/// then set. VALUE ERROR for a name that stands for nothing and where there is no right side, SYNTAX ERROR for a label or a
+/// function, and what `index_assign` reports on the name's value, each also where there is no memory.
 pub fn assign_items(
     interpreter: &mut Interpreter,
     e: Evaluation,
@@ -125,7 +127,7 @@ pub fn assign_items(
 ) -> Result<Flow, Fail>
     requires sound { IsCaller interpreter.old.workspace e }
     ensures comes { Comes interpreter.old (part_takes interpreter.old e (λ values. items_step name (popped places.now.items values).subs (popped places.now.items values).values)) 0 interpreter.new result }
-    ensures memory { OnWantOfMemory result ((look interpreter.old.workspace name ≢ meaning.Nothing) × (is_assignable (look interpreter.old.workspace name) ≡ true)) }
+    ensures memory { OnWantOfMemory result (MayBeReplaced (look interpreter.old.workspace name) (subs_held interpreter.old.workspace e places.now.items) (behind_subs interpreter.old.workspace e places.now.items)) }
     ensures sound { IfOk result (IsFlow interpreter.new) }
     ensures within { IfOk result (StaysWithin interpreter.old e interpreter.new) }
 {
@@ -138,22 +140,35 @@ pub fn assign_items(
     }
 }
 
-// The report on a name that has no items to be replaced, if it has none: it stands for nothing, or is a label or a function.
+// The report on an assignment to items of a name, if there is one: the name stands for nothing, or is a label or a function,
+// there is no right side, or something is wrong with the items of its value. It takes no memory.
 fn no_items(
     interpreter: &Interpreter,
     e: &Evaluation,
     name: &Name,
     places: &Places,
 ) -> Option<Report>
+    requires { IsEvaluation interpreter.now.workspace e.now }
     ensures some { IfSome result (λ report. Comes interpreter.now (part_takes interpreter.now e.now (λ values. items_step name.now (popped places.now.items values).subs (popped places.now.items values).values)) 0 interpreter.now (Err (fail.Report report))) }
-    ensures none { result ≡ None → (look interpreter.now.workspace name.now ≢ meaning.Nothing) × (is_assignable (look interpreter.now.workspace name.now) ≡ true) }
+    ensures none { result ≡ None → MayBeReplaced (look interpreter.now.workspace name.now) (subs_held interpreter.now.workspace e.now places.now.items) (behind_subs interpreter.now.workspace e.now places.now.items) }
 {
     match interpreter.workspace.look(name) {
         Seen::Nothing => Some(Report::Value),
-        Seen::Value(_) => None,
+        Seen::Value(old) => replacing_report(old, e, places.as_slice(), &interpreter.workspace),
         Seen::Function(_) => Some(not_replaced(e, places)),
         Seen::Label(_) => Some(not_replaced(e, places)),
-        Seen::Shared(_) => None,
+        Seen::Shared(_) => no_right_side(e, places),
+    }
+}
+
+// VALUE ERROR where no value stands behind the subscripts.
+fn no_right_side(e: &Evaluation, places: &Places) -> Option<Report>
+    ensures { result ≡ (if nat_lt (count_by is_some places.now.items) (length e.now.values.items) then None else Some report.Value) }
+{
+    if given_count(places.as_slice()) < e.values.len() {
+        None
+    } else {
+        Some(Report::Value)
     }
 }
 
@@ -166,13 +181,6 @@ fn not_replaced(e: &Evaluation, places: &Places) -> Report
     } else {
         Report::Value
     }
-}
-
-// How many subscripts are given.
-fn given_count(places: &[Option<u64>]) -> usize
-    ensures { result ≡ count_by is_some places.now }
-{
-    places.iter().filter(|place| place.is_some()).count()
 }
 
 // The same, where the subscripts and the right side are taken first.

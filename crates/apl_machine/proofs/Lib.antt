@@ -1,4 +1,5 @@
 pub mod Applies
+pub mod Indexed
 pub mod NextHeld
 pub mod OpenStage
 pub mod Performs

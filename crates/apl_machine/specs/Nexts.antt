@@ -1,7 +1,7 @@
 -- The next part of a statement where it only gives a value.
-use Rattle.std.specs.Prelude.{◌≡◌, ◌≢◌, ◌<◌, ◌+◌, Bool, true, false, Some}
+use Rattle.std.specs.Prelude.{◌≡◌, ◌<◌, ◌+◌, ℕ, Bool, true, false, List, Option, Some, None}
 use Rattle.apl_arrays.specs.Array.{PlainArray}
-use Rattle.apl_workspace.specs.Workspace.{is_assignable}
+use Rattle.apl_workspace.specs.Workspace.{PlainWorkspace, is_assignable}
 use Rattle.apl_workspace.specs.declared.meaning.Meaning.{Meaning}
 use Rattle.apl_workspace.specs.declared.meaning.Meaning.TheVariants as meaning
 use Rattle.apl_meaning.specs.State.{gives}
@@ -14,6 +14,7 @@ use Rattle.apl_statements.specs.Moves.{Moves, part_gives}
 use Rattle.apl_statements.specs.Stack.{onward}
 use Rattle.apl_statements.specs.Holding.{parts_of}
 use Rattle.apl_statements.specs.Work.{parts_left}
+use Rattle.apl_subscripts.specs.Held.{MayBeReplaced, behind_subs, subs_held}
 
 -- a name stands for a value
 abbrev pub IsValueSeen : Meaning → Type 0
@@ -25,10 +26,10 @@ pub record IsNextStackValue (m : PlainInterpreter) (e : Evaluation) (held : Stac
   pub is_held : IsStackValue m.workspace (parts_of e) held
   pub moves : Moves m (λ s. onward (evaluation_of m.workspace e) m.stack s) 0 m (part_gives m (record e { at = e.at + 1 }) (λ s. gives (Some (stack_value m.workspace (parts_of e) held)) s))
 
--- what a name stands for takes a value; where items of it are replaced, it also stands for something
-abbrev pub MayBeAssigned : Bool → Meaning → Type 0
-MayBeAssigned false seen = is_assignable seen ≡ true
-MayBeAssigned true seen = (seen ≢ meaning.Nothing) × (is_assignable seen ≡ true)
+-- what a name stands for takes a value; where items of it are replaced at these places, they may be replaced by what a statement holds
+abbrev pub MayBeAssigned : Option (List (Option ℕ)) → PlainWorkspace → Evaluation → Meaning → Type 0
+MayBeAssigned None w e seen = is_assignable seen ≡ true
+MayBeAssigned (Some places) w e seen = MayBeReplaced seen (subs_held w e places) (behind_subs w e places)
 
 -- a part was done, or the statement is as it was
 abbrev pub HasPassed : Evaluation → Evaluation → Bool → Type 0

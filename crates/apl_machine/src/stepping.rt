@@ -1,20 +1,24 @@
-ghost use Rattle.std.specs.Prelude.{◌≡◌, ◌+◌, ◌-◌, ◌<◌, ◌≤◌, None, true, false, IfErr, IfOk, IfSome, OnOk, is_some, length, option_map, slice_get};
+ghost use Rattle.std.specs.Prelude.{◌≡◌, ◌+◌, ◌-◌, ◌<◌, ◌≤◌, None, true, false, IfErr, IfOk, IfSome, OnOk, length, option_map, slice_get};
 ghost use Rattle.apl_arrays.specs.declared.report.Fail.TheVariants as fail;
 ghost use Rattle.apl_arrays.specs.declared.report.Report.TheVariants as report;
+ghost use Rattle.apl_items.specs.Answers.{first_report};
 ghost use Rattle.apl_items.specs.Places.{OnWantOfMemory};
+ghost use Rattle.apl_selection.specs.Indexing.{index_faults};
 ghost use Rattle.apl_workspace.specs.Workspace.{look};
 ghost use Rattle.apl_meaning.specs.Expressions.{valued};
 ghost use Rattle.apl_meaning.specs.Nodes.{indexed_step};
 ghost use Rattle.apl_meaning.specs.Variables.{reference};
 ghost use Rattle.apl_values.specs.Parts.{is_paren, plain_part};
+ghost use Rattle.apl_values.specs.Values.{IsStackValue, stack_value};
 ghost use Rattle.apl_statements.specs.Evaluating.{evaluation_of};
 ghost use Rattle.apl_statements.specs.Moves.{Comes, ComesToPause, Moves, flow_to_come, part_gives, part_takes};
 ghost use Rattle.apl_statements.specs.Sound.{IsCaller, IsEvaluation, IsFlow, IsPause};
 ghost use Rattle.apl_statements.specs.Stack.{assignment_step, onward};
-ghost use Rattle.apl_statements.specs.Holding.{parts_of};
+ghost use Rattle.apl_statements.specs.Holding.{parts_of, stack_values};
 ghost use Rattle.apl_statements.specs.Wants.{NoReportIsDue};
 ghost use Rattle.apl_statements.specs.Work.{Falls, StaysWithin, TakesAStep};
 ghost use Rattle.apl_statements.specs.declared.flow.Flow.TheVariants as flow;
+ghost use Rattle.apl_subscripts.specs.Held.{subs_held};
 ghost use Rattle.apl_machine.specs.Nexts.{HasPassed, IsNextStackValue, IsValueSeen, MayBeAssigned};
 
 use crate::applying::perform;
@@ -24,6 +28,7 @@ use apl_calls::{call, end_statement, follow};
 use apl_operators::Steps;
 use apl_selection::index;
 use apl_statements::{Evaluation, Flow, Interpreter, Pause};
+use apl_subscripts::index_report;
 use apl_values::{ActPurpose, Part, StackValue, array_of};
 use apl_workspace::{Args, Seen};
 use line_trees::{Node, Places};
@@ -197,7 +202,8 @@ fn step<L: Ledger>(
     }
 }
 
-// An assignment to a name, or to its items. What the name cannot take ends the line also where there is no memory.
+// An assignment to a name, or to its items. What the name cannot take, or what is wrong with its items, ends the line also where
+// there is no memory.
 fn assign_to(
     interpreter: &mut Interpreter,
     e: Evaluation,
@@ -206,7 +212,7 @@ fn assign_to(
 ) -> Result<Flow, Fail>
     requires sound { IsCaller interpreter.old.workspace e }
     ensures comes { Comes interpreter.old (part_takes interpreter.old e (assignment_step name (option_map (λ places. places.items) places))) 0 interpreter.new result }
-    ensures memory { OnWantOfMemory result (MayBeAssigned (is_some places) (look interpreter.old.workspace name)) }
+    ensures memory { OnWantOfMemory result (MayBeAssigned (option_map (λ places. places.items) places) interpreter.old.workspace e (look interpreter.old.workspace name)) }
     ensures sound { IfOk result (IsFlow interpreter.new) }
     ensures within { IfOk result (StaysWithin interpreter.old e interpreter.new) }
 {
@@ -237,22 +243,52 @@ fn refer(interpreter: &Interpreter, e: Evaluation, name: Name) -> Result<Flow, F
     }
 }
 
-// An array is indexed by its subscripts.
+// An array is indexed by its subscripts. VALUE ERROR where there is none, and what `index` reports, come also where there is no
+// memory.
 fn index_value(interpreter: &Interpreter, e: Evaluation, places: &Places) -> Result<Flow, Fail>
     requires sound { IsCaller interpreter.now.workspace e }
     ensures comes { Comes interpreter.now (part_takes interpreter.now e (indexed_step places.now.items)) 0 interpreter.now result }
+    ensures memory { OnWantOfMemory result (NoReportIsDue interpreter.now (indexed_step places.now.items (stack_values interpreter.now.workspace e))) }
     ensures sound { IfOk result (IsFlow interpreter.now) }
     ensures within { IfOk result (StaysWithin interpreter.now e interpreter.now) }
 {
     let mut e = e;
     let held = e.take()?;
-    let subs = e.take_subs(interpreter.alloc, places.as_slice(), &interpreter.workspace)?;
-    let array = index(
-        interpreter.alloc,
-        array_of(&held, e.parts(), &interpreter.workspace),
-        &subs,
-    )?;
-    interpreter.give(e, StackValue::Made(array))
+    match report_on(interpreter, &e, &held, places) {
+        Some(report) => {
+            drop(held);
+            drop(e);
+            Err(Fail::Report(report))
+        }
+        None => {
+            let subs = e.take_subs(interpreter.alloc, places.as_slice(), &interpreter.workspace)?;
+            let array = index(
+                interpreter.alloc,
+                array_of(&held, e.parts(), &interpreter.workspace),
+                &subs,
+            )?;
+            interpreter.give(e, StackValue::Made(array))
+        }
+    }
+}
+
+// The report on a value that is indexed by the subscripts that a statement holds, if there is one. It takes no memory.
+fn report_on(
+    interpreter: &Interpreter,
+    e: &Evaluation,
+    held: &StackValue,
+    places: &Places,
+) -> Option<Report>
+    requires sound { IsEvaluation interpreter.now.workspace e.now }
+    requires held { IsStackValue interpreter.now.workspace (parts_of e.now) held.now }
+    ensures { result ≡ first_report (index_faults (stack_value interpreter.now.workspace (parts_of e.now) held.now) (subs_held interpreter.now.workspace e.now places.now.items)) }
+{
+    index_report(
+        array_of(held, e.parts(), &interpreter.workspace),
+        e,
+        places.as_slice(),
+        &interpreter.workspace,
+    )
 }
 
 // No arguments.
