@@ -120,7 +120,7 @@ module _ {X : Type 0} where
 
   -- ---- entries that ascend are told by their look-ups
 
-  first_found : (e : List ℕ × X) (es : List (List ℕ × X)) → found (e ∷ es) e.0 ≡ Some e.1
+  pub first_found : (e : List ℕ × X) (es : List (List ℕ × X)) → found (e ∷ es) e.0 ≡ Some e.1
   first_found e es = lookup_head (same_name e.0) e es (own_name e.0)
 
   none_below : (name : List ℕ) (e : List ℕ × X) (es : List (List ℕ × X)) → Ascend (keys_of (e ∷ es)) → name_order name e.0 ≡ Less → found (e ∷ es) name ≡ None
@@ -142,7 +142,7 @@ module _ {X : Type 0} where
       let less : name_order b.0 a.0 ≡ Less = nat_list_cmp_total.antisymm b.0 a.0 ∙ ap ordering_reverse p in
       absurd (false≢true (nothing_is_something b.1 (sym (none_below b.0 a xs s less) ∙ same b.0 ∙ first_found b ys)))
 
-  behind_by : (b : Bool) (name : List ℕ) (e : List ℕ × X) (es : List (List ℕ × X)) → same_name name e.0 ≡ b → Ascend (keys_of (e ∷ es)) → found es name ≡ cond b None (found (e ∷ es) name)
+  pub behind_by : (b : Bool) (name : List ℕ) (e : List ℕ × X) (es : List (List ℕ × X)) → same_name name e.0 ≡ b → Ascend (keys_of (e ∷ es)) → found es name ≡ cond b None (found (e ∷ es) name)
   behind_by true name e es p s = ap (found es) (equal_names name e.0 p) ∙ none_behind e es s
   behind_by false name e es p s = sym (lookup_tail (same_name name) e es p)
 

@@ -33,7 +33,7 @@ result_and_locals names outcome locals = sym (fold-append with_local_name names 
 -- ---- a frame more, and one less
 
 -- what stands before the others
-framed : (globals : NameTable) (offers : List Remake) (printed : ℕ) (frames : List NameTable) (frame : NameTable) (meaning : Meaning) (args : Args) → IsFrameFor meaning args frame
+pub framed : (globals : NameTable) (offers : List Remake) (printed : ℕ) (frames : List NameTable) (frame : NameTable) (meaning : Meaning) (args : Args) → IsFrameFor meaning args frame
     → with_frames globals offers printed (frame ∷ frames) ≡ with_frame_by meaning (with_frames globals offers printed frames) args
 framed globals offers printed frames frame Nothing args h = absurd h
 framed globals offers printed frames frame (Value value) args h = absurd h

@@ -63,7 +63,7 @@ label_ascends : (label : Option (List ℕ)) (number : ℕ) (names : NameTable) �
 label_ascends None number names s = s
 label_ascends (Some label) number names s = with_ascends names label (Label number) s
 
-lines_ascend : (number : ℕ) (lines : List (List ℕ)) (names : NameTable) → Ascend (keys_of names) → Ascend (keys_of (with_labels number lines names))
+pub lines_ascend : (number : ℕ) (lines : List (List ℕ)) (names : NameTable) → Ascend (keys_of names) → Ascend (keys_of (with_labels number lines names))
 lines_ascend number [] names s = s
 lines_ascend number (line ∷ lines) names s = label_ascends (label_of line) number (with_labels (number + 1) lines names) (lines_ascend (number + 1) lines names s)
 
@@ -75,7 +75,7 @@ locals_ascend : (locals : List (List ℕ)) (names : NameTable) → Ascend (keys_
 locals_ascend [] names s = s
 locals_ascend (name ∷ locals) names s = locals_ascend locals (with_local_name names name) (with_ascends names name Nothing s)
 
-header_ascends : (header : PlainHeader) (args : Args) → Ascend (keys_of (header_names header args))
+pub header_ascends : (header : PlainHeader) (args : Args) → Ascend (keys_of (header_names header args))
 header_ascends header args =
     let left = with_argument [] header.left args.left in
     locals_ascend (option_to_list header.result ++ header.locals) (with_argument left header.right args.right) (argument_ascends left header.right args.right (argument_ascends [] header.left args.left none_ascend))

@@ -3,6 +3,7 @@ pub mod Comments
 pub mod Entering
 pub mod Fitting
 pub mod FrameLaw
+pub mod FrameWeight
 pub mod Giving
 pub mod HeaderLaw
 pub mod InOrder

@@ -13,11 +13,13 @@ use Rattle.std.proofs.lemmas.Map.Entries.{lookup-filter-values, option_filter}
 use Rattle.std.proofs.lemmas.Map.Keys.{IsDistinct-IsPermutation, IsDistinct-head, IsDistinct-tail, IsDistinct-cons, apart_from_distinct, sorted_from_all_adjacent, sorted_head, sorted_tail}
 use Rattle.std.proofs.lemmas.Map.Made.{is_some-lookup}
 use Rattle.apl_arrays.specs.Name.{name_order, same_name}
+use Rattle.apl_workspace.specs.Listing.{AreNamesOf}
+use Rattle.apl_workspace.specs.Names.{all_differ}
 use Rattle.apl_workspace.specs.Sorted.{sorted}
 use Rattle.apl_workspace.specs.declared.meaning.Meaning.{Meaning}
 use Rattle.apl_workspace.proofs.Ascending.{Ascend, ascend_cons, ascending_apart, found, told_by_look_ups}
-use Rattle.apl_workspace.proofs.InOrder.{Entries, found_in_order, sorted_ascends}
-use Rattle.apl_workspace.proofs.NameLaw.{by_order, name_flips}
+use Rattle.apl_workspace.proofs.InOrder.{Entries, found_in_order, looked_up, sorted_ascends}
+use Rattle.apl_workspace.proofs.NameLaw.{by_order, differ_cons, name_flips, none_differ}
 
 -- the entries that stand for what a test takes
 abbrev pub taking : (Meaning → Bool) → Entries → Entries
@@ -113,3 +115,20 @@ all_taken_of_all (e ∷ es) = ap (λ rest. e ∷ rest) (all_taken_of_all es)
 
 pub all_gathered : (entries : Entries) (names result : List (List ℕ)) → IsDistinct same_name (keys_of entries) → names ≡ keys_of (taking (λ meaning. true) entries) → IsPermutation names result → IsSorted name_order result → result ≡ keys_of (sorted entries)
 all_gathered entries names result d is moved up = gathered (λ meaning. true) entries names result d is moved up ∙ ap keys_of (all_taken_of_all (sorted entries))
+
+-- ---- names in any order
+
+none_repeated : (name : List ℕ) (names : List (List ℕ)) → AllByRecursion (λ other. same_name name other ≡ false) names → list_any (same_name name) names ≡ false
+none_repeated name [] apart = refl
+none_repeated name (other ∷ names) apart = ap (λ (b : Bool). b || list_any (same_name name) names) apart.0 ∙ none_repeated name names apart.1
+
+distinct_differ : (names : List (List ℕ)) → IsDistinct same_name names → all_differ names ≡ true
+distinct_differ [] d = none_differ
+distinct_differ (name ∷ names) d = differ_cons name names (none_repeated name names (IsDistinct-head same_name name names d)) (distinct_differ names (IsDistinct-tail same_name name names d))
+
+-- the names of entries are those of the table
+pub unordered : (entries : Entries) → IsDistinct same_name (keys_of entries) → AreNamesOf (sorted entries) (keys_of entries)
+unordered entries d = record {
+  there = λ name. sym (is_some-lookup (same_name name) entries) ∙ ap is_some (looked_up entries name);
+  differ = distinct_differ (keys_of entries) d;
+}

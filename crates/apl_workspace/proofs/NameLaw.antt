@@ -158,7 +158,7 @@ first_differs name names e =
     let parts = and_parts (not (list_any (same_name name) names)) (all_differ names) e in
     (from_not (list_any (same_name name) names) parts.0, parts.1)
 
-differ_cons : (name : List ℕ) (names : List (List ℕ)) → list_any (same_name name) names ≡ false → all_differ names ≡ true → all_differ (name ∷ names) ≡ true
+pub differ_cons : (name : List ℕ) (names : List (List ℕ)) → list_any (same_name name) names ≡ false → all_differ names ≡ true → all_differ (name ∷ names) ≡ true
 unfolding all_differ
 differ_cons name names apart differ = both_hold (not (list_any (same_name name) names)) (all_differ names) (negated (list_any (same_name name) names) apart) differ
 

@@ -5,8 +5,8 @@ use Rattle.std.specs.Option.{option_to_list}
 use Rattle.apl_arrays.specs.Array.{PlainArray}
 use Rattle.apl_workspace.specs.Function.{PlainFunction}
 use Rattle.apl_workspace.specs.Header.{PlainHeader}
-use Rattle.apl_workspace.specs.Label.{label_of}
-use Rattle.apl_workspace.specs.Meaning.{NameTable, meaning_of, with_meaning}
+use Rattle.apl_workspace.specs.Label.{label_of, line_among}
+use Rattle.apl_workspace.specs.Meaning.{NameTable, meaning_of, meaning_weight, with_meaning}
 use Rattle.apl_arrays.specs.Name.{same_name}
 use Rattle.apl_workspace.specs.declared.args.Args.{Args}
 use Rattle.apl_workspace.specs.declared.label.LabelledLine.{LabelledLine}
@@ -54,6 +54,11 @@ with_labelled_line names labelled = with_meaning names labelled.label (Label lab
 -- the frame of a function: the names of its header, and its labels, which hide those
 abbrev pub frame_of : PlainFunction → Args → NameTable
 frame_of function args = with_labels 1 function.lines (header_names function.header args)
+
+-- what an argument weighs in a frame with these labels: nothing where one of them hides it
+abbrev pub argument_weight : List LabelledLine → Option (List ℕ) → Option PlainArray → ℕ
+argument_weight labels None value = 0
+argument_weight labels (Some name) value = if is_some (line_among labels name) then 0 else meaning_weight (meaning_of value)
 
 -- the arguments are those that the header asks for
 pub record AreArgumentsOf (header : PlainHeader) (args : Args) : Type 0 where

@@ -1,7 +1,10 @@
 -- Lists of global names.
-use Rattle.std.specs.Prelude.{ℕ, Bool, true, List, Option, Some, None, filter}
+use Rattle.std.specs.Prelude.{◌≡◌, ℕ, Bool, true, List, Option, Some, None, filter, is_some}
+use Rattle.std.specs.List.{list_any}
 use Rattle.std.specs.Map.{keys_of}
-use Rattle.apl_workspace.specs.Meaning.{NameTable, is_function_meaning, is_shared_meaning, is_variable_meaning}
+use Rattle.apl_workspace.specs.Meaning.{NameTable, is_function_meaning, is_shared_meaning, is_variable_meaning, meaning_in}
+use Rattle.apl_arrays.specs.Name.{same_name}
+use Rattle.apl_workspace.specs.Names.{all_differ}
 use Rattle.apl_workspace.specs.Workspace.{PlainWorkspace}
 use Rattle.apl_workspace.specs.declared.meaning.Meaning.{Meaning}
 use Rattle.apl_workspace.specs.declared.what.What.{What}
@@ -21,6 +24,11 @@ is_wanted (Some what) meaning = is_asked what meaning
 -- the names of a table that stand for what is asked, ascending
 abbrev pub names_among : What → NameTable → List (List ℕ)
 names_among what names = keys_of (filter (λ entry. is_asked what entry.1) names)
+
+-- these are the names of a table, each once, in any order
+pub record AreNamesOf (table : NameTable) (names : List (List ℕ)) : Type 0 where
+  pub there : (name : List ℕ) → list_any (same_name name) names ≡ is_some (meaning_in table name)
+  pub differ : all_differ names ≡ true
 
 -- the global names of a workspace that stand for what is asked, ascending
 abbrev pub names_asked : What → PlainWorkspace → List (List ℕ)

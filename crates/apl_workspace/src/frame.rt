@@ -1,12 +1,12 @@
-ghost use Rattle.std.specs.Prelude.{◌≡◌, ◌+◌, ◌++◌, ◌≤◌, ℕ, List as ListOf, OnOk, IfOk, fold};
-ghost use Rattle.std.specs.Option.{option_map, option_or, option_to_list};
+ghost use Rattle.std.specs.Prelude.{◌≡◌, ◌+◌, ◌*◌, ◌++◌, ◌≤◌, ℕ, List as ListOf, OnOk, IfOk, fold};
+ghost use Rattle.std.specs.Option.{option_copied, option_map, option_or, option_to_list};
 ghost use Rattle.apl_arrays.specs.Limits.{most_elements};
-ghost use Rattle.apl_workspace.specs.Frame.{frame_of, header_names, with_argument, with_labelled_line, with_local_name};
-ghost use Rattle.apl_workspace.specs.Function.{PlainFunction};
+ghost use Rattle.apl_workspace.specs.Frame.{argument_weight, frame_of, header_names, with_argument, with_labelled_line, with_local_name};
+ghost use Rattle.apl_workspace.specs.Function.{IsFunction, PlainFunction};
 ghost use Rattle.apl_workspace.specs.Label.{labelled_line};
 ghost use Rattle.apl_workspace.specs.Meaning.{meaning_in, table_weight};
 
-use crate::label::LabelledLine;
+use crate::label::{LabelledLine, has_label};
 use crate::table::Table;
 use crate::{Args, Function, Header, Meaning};
 use apl_arrays::{Array, Name, WantOfMemory};
@@ -20,6 +20,34 @@ pub fn frame_of(room: Table, function: &Function, args: Args) -> Result<Table, W
     let mut frame = header_names(room, function.header(), args)?;
     put_labels(&mut frame, function.labels())?;
     Ok(frame)
+}
+
+/// What the frame of a function that is called with these arguments weighs: they themselves, but those that a label hides.
+#[tactic(auto, using(crate::proofs::FrameWeight::frame_weighs))]
+pub fn frame_weight(function: &Function, args: &Args) -> usize
+    requires { IsFunction function.now }
+    ensures value { result ≡ table_weight (frame_of function.now args.now) }
+    ensures within { result ≤ 2 * (most_elements + 1) }
+{
+    let header = function.header();
+    let labels = function.labels();
+    let left = argument_weight(labels, header.left, args.left.as_ref());
+    left + argument_weight(labels, header.right, args.right.as_ref())
+}
+
+/// What an argument weighs in a frame with these labels: nothing where one of them hides it.
+fn argument_weight(labels: &[LabelledLine], name: Option<Name>, value: Option<&Array>) -> usize
+    ensures value { result ≡ argument_weight labels.now name (option_copied value.entry) }
+    ensures within { result ≤ most_elements + 1 }
+{
+    let (Some(name), Some(value)) = (name, value) else {
+        return 0;
+    };
+    if has_label(labels, &name) {
+        0
+    } else {
+        value.items().len() + 1
+    }
 }
 
 /// The names of a header but the function's own: the arguments with their values, the result and the local names without.

@@ -61,7 +61,8 @@ fn add_line(
     }
 }
 
-fn has_label(labels: &[LabelledLine], label: &Name) -> bool
+/// Whether a label is one of these.
+pub fn has_label(labels: &[LabelledLine], label: &Name) -> bool
     ensures { result ≡ is_some (line_among labels.now label.now) }
 {
     labels.iter().any(|labelled| labelled.label == *label)

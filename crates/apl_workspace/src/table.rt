@@ -5,7 +5,7 @@ ghost use Rattle.apl_arrays.specs.Name.{name_order, same_name};
 ghost use Rattle.std.specs.Map.{keys_of, values_of};
 ghost use Rattle.std.specs.Option.{option_copied};
 ghost use Rattle.apl_workspace.specs.Limits.{most_weight};
-ghost use Rattle.apl_workspace.specs.Listing.{is_wanted, names_among};
+ghost use Rattle.apl_workspace.specs.Listing.{AreNamesOf, is_wanted, names_among};
 ghost use Rattle.apl_workspace.specs.Meaning.{IsFullFor, IsWhole, is_shared_in, meaning_in, meaning_weight, own_copy_in, shared_copy, table_weight, weight_in, with_meaning, with_value_or_none, without_name};
 ghost use Rattle.apl_workspace.specs.Sorted.{sorted};
 
@@ -238,6 +238,14 @@ impl Table {
         let mut names = collected(alloc, &self.names, Some(what))?;
         names.sort()?;
         Ok(List::from(names))
+    }
+
+    /// All names, in no order.
+    #[tactic(auto, using(crate::proofs::Listed::unordered))]
+    pub fn unordered_names(&self) -> &[Name]
+        ensures { AreNamesOf self.now result.now }
+    {
+        self.names.keys().as_slice()
     }
 
     /// All names, ascending. It takes memory for them.

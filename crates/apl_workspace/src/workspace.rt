@@ -1,6 +1,6 @@
 ghost use Rattle.std.specs.Prelude.{◌≡◌, ◌≤◌, ◌+◌, [], false, All, IfOk, length};
 ghost use Rattle.apl_workspace.specs.Limits.{most_depth, most_printed, most_weight};
-ghost use Rattle.apl_workspace.specs.Listing.{all_names, names_asked};
+ghost use Rattle.apl_workspace.specs.Listing.{AreNamesOf, all_names, names_asked};
 ghost use Rattle.apl_workspace.specs.Seen.{plain_seen};
 ghost use Rattle.apl_workspace.specs.Meaning.{IsWhole, is_shared_meaning};
 ghost use Rattle.apl_workspace.specs.Workspace.{IsWorkspace, empty_workspace, global_in, is_local, is_shared, look, with_printed, without_globals, workspace_weight};
@@ -137,6 +137,14 @@ impl Workspace {
         ensures rules { IsWorkspace self.now }
     {
         self.globals.all_names(self.alloc)
+    }
+
+    /// All global names, each once, in no order.
+    pub fn unordered_names(&self) -> &[Name]
+        ensures names { AreNamesOf self.now.globals result.now }
+        ensures rules { IsWorkspace self.now }
+    {
+        self.globals.unordered_names()
     }
 
     /// What it weighs: the global names and all frames.
