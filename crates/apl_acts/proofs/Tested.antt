@@ -168,7 +168,7 @@ asks_rows m part faults n each deeds rows (Err fail.WantOfMemory) tested none ar
 
 -- what a `?` hands out is why a call failed
 pub asks_exit : (m : PlainInterpreter) (part : State → Outcome PlainArray) (r : Result Asking Fail) (y why : Fail) → r ≡ Err y → y ≡ why → Asks m part (Err why) → Asks m part r
-asks_exit m part r y why exit same asks = subst (λ (x : Result Asking Fail). Asks m part x) (sym exit) (subst (λ (w : Fail). Asks m part (Err w)) (sym same) asks)
+asks_exit m part r y why exit same there = subst (λ (x : Result Asking Fail). Asks m part x) (sym exit) (subst (λ (w : Fail). Asks m part (Err w)) (sym same) there)
 
 -- ---- rows that may be done
 

@@ -1,16 +1,51 @@
-use Rattle.std.proofs.Common.{sym, ap, subst, ◌∙◌}
+use Rattle.std.proofs.Common.{◌≡◌, ℕ, List, sym, ap, subst, ◌∙◌}
+use Rattle.std.specs.Prelude.{Option, None, Result}
+use Rattle.apl_arrays.specs.declared.report.Fail.{Fail}
+use Rattle.apl_arrays.specs.declared.report.Report.{Report}
 use Rattle.apl_items.specs.Places.{OnWantOfMemory}
 use Rattle.apl_workspace.specs.Workspace.{PlainWorkspace}
-use Rattle.sv_events.specs.Answer.{plain_answer}
+use Rattle.sv_events.specs.Answer.{PlainAnswer, plain_answer}
+use Rattle.sv_events.specs.Row.{answer_row}
 use Rattle.sv_events.specs.declared.row.AnswerRow.{AnswerRow}
-use Rattle.apl_meaning.specs.Answers.{report_of_kind}
+use Rattle.apl_meaning.specs.Answers.{report_of_kind, unless_ended}
+use Rattle.apl_meaning.specs.Expressions.{Found, valued}
+use Rattle.apl_meaning.specs.Queries.{list_outcome, name_matrix, party_vector}
+use Rattle.apl_meaning.specs.State.{State, Outcome, and_then}
 use Rattle.apl_selection.proofs.WantLemmas.{on_want}
 use Rattle.apl_values.specs.declared.pending.ActPurpose.{ActPurpose}
-use Rattle.apl_values.specs.Pending.{act_for_purpose, plain_act_purpose}
+use Rattle.apl_values.specs.Pending.{PlainActPurpose, act_for_purpose, brought, brought_by, names_asked, parties_asked, plain_act_purpose}
 use Rattle.apl_values.specs.Rows.{rows_left}
+use Rattle.apl_statements.specs.declared.evaluation.Evaluation.{Evaluation}
+use Rattle.apl_statements.specs.declared.flow.Flow.{Flow}
+use Rattle.apl_statements.specs.Evaluating.{caller_of}
+use Rattle.apl_statements.specs.Interpreter.{PlainInterpreter, here, state_at}
+use Rattle.apl_statements.specs.Moves.{Comes, part_gives}
+use Rattle.apl_statements.specs.Stack.{carried_on}
 use Rattle.apl_statements.specs.Wants.{CopyFits}
+use Rattle.apl_statements.proofs.Same.{comes_as}
 use Rattle.apl_answers.proofs.Wanting.{row_brings_no_copy}
 use Rattle.apl_answers.proofs.answering.bring.Goals as goal
+
+-- what comes of an answer that does not end the line is what it brings
+brings : (m : PlainInterpreter) (e : Evaluation) (answer : PlainAnswer) (asked for_this : PlainActPurpose) (r : Result Flow Fail) → report_of_kind (answer_row answer).row.kind ≡ None → asked ≡ for_this → Comes m (part_gives m e (λ s. brought for_this answer s)) 0 m r
+    → Comes m (part_gives m e (brought_by answer asked)) 0 m r
+brings m e answer asked for_this r none is comes =
+    comes_as m m (part_gives m e (brought_by answer asked)) (part_gives m e (λ s. brought for_this answer s)) 0 r (λ acts count taken further.
+    let s : State = state_at m acts count taken further in
+    ap (λ (o : Outcome Found). carried_on o (caller_of m.workspace (here m) e) m.stack)
+    (ap (λ (one : PlainActPurpose). brought_by answer one s) is ∙ ap (λ (found : Option Report). and_then (unless_ended found answer s) (λ answer s. brought for_this answer s)) none)) comes
+
+pub returns-in-Parties-clause-comes : goal.returns-in-Parties-clause-comes
+returns-in-Parties-clause-comes c =
+    let m : PlainInterpreter = c.args.interpreter.now in
+    brings m c.args.e (plain_answer c.args.answer) (plain_act_purpose c.args.pending) parties_asked c.list_parties.result (ap (λ (row : AnswerRow). report_of_kind row.kind) (sym c.row.ensures) ∙ sym c.report_of.ensures ∙ c.in_default.is) (ap plain_act_purpose c.in-Parties.is)
+    (subst (λ (list : List ℕ). Comes m (part_gives m c.args.e (λ s. valued (list_outcome (party_vector list) s))) 0 m c.list_parties.result) c.parties_in.ensures c.list_parties.ensures.comes)
+
+pub returns-in-Names-clause-comes : goal.returns-in-Names-clause-comes
+returns-in-Names-clause-comes c =
+    let m : PlainInterpreter = c.args.interpreter.now in
+    brings m c.args.e (plain_answer c.args.answer) (plain_act_purpose c.args.pending) (names_asked c.in-Names.field-0) c.list_names.result (ap (λ (row : AnswerRow). report_of_kind row.kind) (sym c.row.ensures) ∙ sym c.report_of.ensures ∙ c.in_default.is) (ap plain_act_purpose c.in-Names.is)
+    (subst (λ (list : List (List ℕ)). Comes m (part_gives m c.args.e (λ s. valued (list_outcome (name_matrix list) s))) 0 m c.list_names.result) c.names_in.ensures c.list_names.ensures.comes)
 
 pub returns-in-Refers-clause-memory : goal.returns-in-Refers-clause-memory
 returns-in-Refers-clause-memory c = on_want c.bring_value.result _ (ap (λ (row : AnswerRow). report_of_kind row.kind) (sym c.row.ensures) ∙ sym c.report_of.ensures ∙ c.in_default.is)

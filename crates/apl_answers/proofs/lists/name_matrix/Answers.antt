@@ -35,7 +35,7 @@ returns-in_err-shaped c =
     let why : exit.0 ≡ fail.WantOfMemory = cc exit.2 in
     wanting_after c.from_residual-in_err-shaped.result exit.0 (answer_of (shape_faults array.shape) array) exit.1 why (array_is_ok (answer_of (shape_faults array.shape) array) array (two_fit (length c.args.names.now) (longest c.args.names.now) c.capped.result c.capped-2.result array c.capped.ensures (c.capped-2.ensures ∙ ap cut c.longest-width.ensures) none))
 
-pub returns-in_ok-shaped : goal.returns-in_ok-shaped
-returns-in_ok-shaped c =
+pub returns : goal.returns
+returns c =
     let none : is_some (shape_fault (c.capped.result ∷ c.capped-2.result ∷ [])) ≡ false = sym (c.is_some.ensures ∙ ap is_some c.shape_fault.ensures) ∙ c.if-is_some.false in
     names_listed c.args.names.now c.in_ok-glyphs.glyphs.items c.capped.result c.capped-2.result c.longest-width.result c.in_ok-shaped.field-0 c.capped.ensures c.capped-2.ensures c.longest-width.ensures c.in_ok-glyphs.ensures none c.in_ok-shaped.ensures.array

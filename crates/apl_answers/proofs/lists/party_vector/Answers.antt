@@ -35,7 +35,7 @@ returns-in_err-shaped c =
     let why : exit.0 ≡ fail.WantOfMemory = cc exit.2 in
     wanting_after c.from_residual-in_err-shaped.result exit.0 (answer_of (shape_faults array.shape) array) exit.1 why (array_is_ok (answer_of (shape_faults array.shape) array) array (one_fits (length c.args.parties.now) c.capped.result array c.capped.ensures none))
 
-pub returns-in_ok-shaped : goal.returns-in_ok-shaped
-returns-in_ok-shaped c =
+pub returns : goal.returns
+returns c =
     let none : is_some (shape_fault (c.capped.result ∷ [])) ≡ false = sym (c.is_some.ensures ∙ ap is_some c.shape_fault.ensures) ∙ c.if-is_some.false in
     parties_listed c.args.parties.now c.in_ok-numbers.numbers.items c.capped.result c.in_ok-shaped.field-0 c.capped.ensures c.in_ok-numbers.ensures none c.in_ok-shaped.ensures.array
