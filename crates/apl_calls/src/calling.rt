@@ -1,4 +1,4 @@
-ghost use Rattle.std.specs.Prelude.{◌≡◌, ◌≢◌, ◌-◌, ◌+◌, ◌<◌, ◌≤◌, [], false, IfErr, IfOk, IfSome, IsSome, OnErr, OnOk, drop, is_some, option_map, slice_get, unwrap_or};
+ghost use Rattle.std.specs.Prelude.{◌≡◌, ◌≢◌, ◌-◌, ◌+◌, ◌<◌, ◌≤◌, [], false, IfErr, IfOk, IfSome, IsSome, OnErr, OnOk, drop, is_some, option_map, slice_get, true, unwrap_or};
 ghost use Rattle.std.specs.Arc.{arc_value};
 ghost use Rattle.std.specs.Option.{option_copied};
 ghost use Rattle.apl_arrays.specs.List.{glyphs_in};

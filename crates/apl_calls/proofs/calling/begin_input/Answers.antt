@@ -16,7 +16,7 @@ use Rattle.apl_calls.proofs.calling.begin_input.Goals as goal
 pub returns-clause-comes : goal.returns-clause-comes
 returns-clause-comes c =
     let m : PlainInterpreter = c.args.interpreter.now in
-    let n : PlainInterpreter = c.count_statement-room.new.interpreter in
+    let n : PlainInterpreter = c.count_statement.new.interpreter in
     let next : LineReading → State → Outcome Next = λ r s. line_outcome ran immediate (line_tree_of (reading_tree r)) s in
     let first : Moves m (statement_leads m (λ s. begun (next c.args.reading) s)) 0 n (statement_leads n (next c.args.reading)) =
     subst (λ (x : PlainInterpreter). Moves m (statement_leads m (λ s. begun (next c.args.reading) s)) 0 x (statement_leads x (next c.args.reading))) (sym c.in_ok-room.ensures.ok.1) (is_counted m (next c.args.reading) c.in_ok-room.ensures.ok.0) in

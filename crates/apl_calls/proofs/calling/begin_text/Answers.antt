@@ -17,7 +17,7 @@ use Rattle.apl_calls.proofs.calling.begin_text.Goals as goal
 pub returns-in_err-room-clause-comes : goal.returns-in_err-room-clause-comes
 returns-in_err-room-clause-comes c =
     let m : PlainInterpreter = c.args.interpreter.now in
-    let n : PlainInterpreter = c.count_statement-room.new.interpreter in
+    let n : PlainInterpreter = c.count_statement.new.interpreter in
     let place : Place = plain_place c.args.place in
     let p = err_from_is_err_and c.from_residual.result c.from_residual.ensures.1 in
     text_comes m n place c.args.text.now.items c.from_residual.result
@@ -27,7 +27,7 @@ returns-in_err-room-clause-comes c =
 pub returns-in_err-reading-clause-comes : goal.returns-in_err-reading-clause-comes
 returns-in_err-reading-clause-comes c =
     let m : PlainInterpreter = c.args.interpreter.now in
-    let n : PlainInterpreter = c.count_statement-room.new.interpreter in
+    let n : PlainInterpreter = c.count_statement.new.interpreter in
     let place : Place = plain_place c.args.place in
     let text : List ℕ = c.args.text.now.items in
     let why : Fail = c.in_err-reading.field-0.0 in
@@ -40,7 +40,7 @@ returns-in_err-reading-clause-comes c =
 pub returns-clause-comes : goal.returns-clause-comes
 returns-clause-comes c =
     let m : PlainInterpreter = c.args.interpreter.now in
-    let n : PlainInterpreter = c.count_statement-room.new.interpreter in
+    let n : PlainInterpreter = c.count_statement.new.interpreter in
     let place : Place = plain_place c.args.place in
     let text : List ℕ = c.args.text.now.items in
     let read : IsReadFrom n.workspace text c.in_ok-reading.reading =
