@@ -7,8 +7,8 @@ use Rattle.apl_arrays.specs.declared.report.Report.{Report}
 use Rattle.apl_items.specs.Answers.{first_report, unless}
 use Rattle.apl_selection.specs.Indexing.{index_faults, indexed}
 use Rattle.apl_meaning.specs.Expressions.{valued}
-use Rattle.apl_meaning.specs.Nodes.{Values, indexed_step, leaving_values, popped}
-use Rattle.apl_meaning.specs.State.{State, Outcome, and_then, outcome_of, refuses}
+use Rattle.apl_meaning.specs.Nodes.{indexed_step, leaving_values, popped}
+use Rattle.apl_meaning.specs.State.{State, and_then, outcome_of, refuses}
 use Rattle.apl_statements.specs.declared.evaluation.Evaluation.{Evaluation}
 use Rattle.apl_statements.specs.Evaluating.{evaluation_of}
 use Rattle.apl_statements.specs.Holding.{stack_values}

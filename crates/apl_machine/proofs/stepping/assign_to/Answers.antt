@@ -1,5 +1,5 @@
-use Rattle.std.proofs.Common.{List, ℕ, sym, subst}
-use Rattle.std.specs.Prelude.{Option, option_map}
+use Rattle.std.proofs.Common.{sym, subst}
+use Rattle.std.specs.Prelude.{option_map}
 use Rattle.apl_items.specs.Places.{OnWantOfMemory}
 use Rattle.apl_workspace.specs.Workspace.{look}
 use Rattle.apl_machine.specs.Nexts.{MayBeAssigned}

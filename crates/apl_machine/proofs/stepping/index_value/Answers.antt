@@ -1,5 +1,5 @@
 use Rattle.std.proofs.Common.{◌≡◌, ◌∷◌, List, [], sym, ap, subst, ◌∙◌}
-use Rattle.std.specs.Prelude.{ℕ, None, Option, Some}
+use Rattle.std.specs.Prelude.{ℕ, None, Option}
 use Rattle.std.proofs.lemmas.List.Elements.{All-head}
 use Rattle.std.proofs.lemmas.Result.{err_from_is_err_and}
 use Rattle.apl_arrays.specs.Array.{PlainArray}
