@@ -1,6 +1,7 @@
 -- What the program promises of the bytes that it reads and writes.
 use Rattle.std.specs.Prelude.{◌≡◌, ◌≤◌, ℕ, Bool, true, false, List, [], ◌∷◌, None, Option, Some, drop, length, map, option_map, reverse, take}
 use Rattle.std.specs.Io.KnownBytes.{Appends}
+use Rattle.apl_arrays.specs.Array.{PlainArray}
 use Rattle.apl_io.specs.Clock.{Ticks}
 use Rattle.apl_io.specs.Content.{Told, placed}
 use Rattle.apl_io.specs.Kept.{Keeper, Timer, file_entry, new_keeper}
@@ -13,7 +14,15 @@ use Rattle.bundle_text.specs.Bundle.{BundleText, IsNoBundle, PlainBundle}
 use Rattle.bundle_text.specs.declared.refused.BundleRule.{BundleRule}
 use Rattle.apl_session.specs.declared.outcome.Ended.{Ended}
 use Rattle.apl_session.specs.declared.outcome.Ended.TheVariants.{Whole, WantOfMemory}
-use Rattle.aplsv_replay.specs.Replayed.{IsDeviceRun}
+use Rattle.auxiliaries.specs.Clock.{RepliesByReading}
+use Rattle.auxiliaries.specs.Protocol.{TextState, idle}
+use Rattle.auxiliaries.specs.Served.{Replies, Served, forgotten}
+use Rattle.aux_components.specs.Filed as component
+use Rattle.aux_components.specs.Filed.{Filed}
+use Rattle.aux_components.specs.Protocol as component_state
+use Rattle.aux_components.specs.Protocol.{FileState}
+use Rattle.aux_relay.specs.Queues.{Queues, Relays}
+use Rattle.aplsv_replay.specs.Replayed.{IsDeviceRun, IsRunInTurns}
 use Rattle.aplsv_words.specs.Meaning.{Asked}
 
 -- the text store of a run: the bundle's files, before the first call, none of which is to fail
@@ -103,26 +112,52 @@ abbrev pub OverShelves : {K : Type 0} → (K → Option (Told (ℕ × List ℕ))
 OverShelves {K} told faults (Some place) bundle shelves shelves_then Holds = (placed : List K) × AreToldTheirPlace told faults place (length bundle.users) shelves placed × Holds K told faults placed shelves_then
 OverShelves told faults None bundle shelves shelves_then Holds = (kept : List (Keeper (ℕ × List ℕ))) × Holds (Keeper (ℕ × List ℕ)) (λ k. Some k.told) (λ k. k.faults) (shelves_of bundle) kept
 
--- it is a run of this bundle over a clock, a text store, and the shelves that are named: this is its journal, and these are its transcripts
-abbrev pub ShelvedRun : {C T K : Type 0} → (C → Option Ticks) → (C → ℕ) → (T → Option (Told (List ℕ))) → (T → ℕ) → (K → Option (Told (ℕ × List ℕ))) → (K → ℕ)
-    → Option (List ℕ) → PlainBundle → Entries → List PlainTranscript → C → C → T → T → List K → List K → Type 0
-ShelvedRun ticks clock_faults text_told text_faults told faults library bundle journal transcripts clock clock_then files files_then shelves shelves_then =
+-- what may be said of what answers behind an auxiliary: by what it forgets and what it replies, and what it is before and after
+abbrev pub SaidOfReplier : Type 1
+SaidOfReplier = (S : Type 0) → (S → ℕ → S → Type 0) → (S → ℕ → PlainArray → PlainArray → S → Type 0) → S → S → Type 0
+
+-- it holds of a relay that held nothing, where one is asked for, so that there is no clock; and else of the clock that is named
+abbrev pub BehindTen : {C : Type 0} → (C → Option Ticks) → (C → ℕ) → Bool → Bool → PlainBundle → C → C → SaidOfReplier → Type 0
+BehindTen ticks faults true named bundle clock clock_then Holds = (queues : Queues) × Holds Queues (λ old party new. new ≡ old) Relays [] queues
+BehindTen ticks faults false named bundle clock clock_then Holds =
+    OverClock ticks faults named bundle clock clock_then (λ C ticks faults clock clock_then. Holds C (λ old party new. new ≡ old) (λ old party value answer new. RepliesByReading ticks faults old value answer new) clock clock_then)
+
+-- it holds of component files in a store, where they are asked for, and else of files of lines in it; the protocol begins between commands, and stands somewhere at the end
+abbrev pub BehindTwenty : {T : Type 0} → (T → Option (Told (List ℕ))) → (T → ℕ) → Bool → T → T → SaidOfReplier → Type 0
+BehindTwenty {T} told faults true files files_then Holds =
+    (state : FileState) × Holds (Filed T) (λ old party new. new ≡ component.forgotten old) (λ old party value answer new. component.Replies told faults old value answer new)
+    (record { store = files; state = component_state.idle }) (record { store = files_then; state = state })
+BehindTwenty {T} told faults false files files_then Holds =
+    (state : TextState) × Holds (Served T) (λ old party new. new ≡ forgotten old) (λ old party value answer new. Replies told faults old value answer new)
+    (record { store = files; state = idle }) (record { store = files_then; state = state })
+
+-- it is a run of this bundle, in turns, over what answers behind 10 and 20 and the shelves that are named: this is its journal, and these are its transcripts
+abbrev pub ShelvedRun : {X Y K : Type 0} → (X → ℕ → X → Type 0) → (X → ℕ → PlainArray → PlainArray → X → Type 0) → (Y → ℕ → Y → Type 0) → (Y → ℕ → PlainArray → PlainArray → Y → Type 0) → (K → Option (Told (ℕ × List ℕ))) → (K → ℕ)
+    → Option (List ℕ) → PlainBundle → Entries → List PlainTranscript → X → X → Y → Y → List K → List K → Type 0
+ShelvedRun forgets_ten replies_ten forgets_twenty replies_twenty told faults library bundle journal transcripts ten ten_then twenty twenty_then shelves shelves_then =
     OverShelves told faults library bundle shelves shelves_then (λ K told faults shelves shelves_then.
-    IsDeviceRun ticks clock_faults text_told text_faults told faults bundle journal transcripts clock clock_then files files_then shelves shelves_then)
+    IsRunInTurns forgets_ten replies_ten forgets_twenty replies_twenty told faults bundle journal transcripts ten ten_then twenty twenty_then shelves shelves_then)
 
--- over a text store, and the clock and the shelves that are named
-abbrev pub ClockedRun : {C T K : Type 0} → (C → Option Ticks) → (C → ℕ) → (T → Option (Told (List ℕ))) → (T → ℕ) → (K → Option (Told (ℕ × List ℕ))) → (K → ℕ)
-    → Bool → Option (List ℕ) → PlainBundle → Entries → List PlainTranscript → C → C → T → T → List K → List K → Type 0
-ClockedRun ticks clock_faults text_told text_faults told faults named library bundle journal transcripts clock clock_then files files_then shelves shelves_then =
-    OverClock ticks clock_faults named bundle clock clock_then (λ C ticks clock_faults clock clock_then.
-    ShelvedRun ticks clock_faults text_told text_faults told faults library bundle journal transcripts clock clock_then files files_then shelves shelves_then)
+-- over what answers behind 20, and the relay or the clock and the shelves that are named
+abbrev pub ClockedRun : {C Y K : Type 0} → (C → Option Ticks) → (C → ℕ) → (Y → ℕ → Y → Type 0) → (Y → ℕ → PlainArray → PlainArray → Y → Type 0) → (K → Option (Told (ℕ × List ℕ))) → (K → ℕ)
+    → Bool → Bool → Option (List ℕ) → PlainBundle → Entries → List PlainTranscript → C → C → Y → Y → List K → List K → Type 0
+ClockedRun ticks clock_faults forgets_twenty replies_twenty told faults relay named library bundle journal transcripts clock clock_then twenty twenty_then shelves shelves_then =
+    BehindTen ticks clock_faults relay named bundle clock clock_then (λ X forgets_ten replies_ten ten ten_then.
+    ShelvedRun forgets_ten replies_ten forgets_twenty replies_twenty told faults library bundle journal transcripts ten ten_then twenty twenty_then shelves shelves_then)
 
--- over the text store, the clock and the shelves that are named
+-- over a text store, and all else that is named
+abbrev pub FiledRun : {C T K : Type 0} → (C → Option Ticks) → (C → ℕ) → (T → Option (Told (List ℕ))) → (T → ℕ) → (K → Option (Told (ℕ × List ℕ))) → (K → ℕ)
+    → Bool → Bool → Bool → Option (List ℕ) → PlainBundle → Entries → List PlainTranscript → C → C → T → T → List K → List K → Type 0
+FiledRun ticks clock_faults text_told text_faults told faults components relay named library bundle journal transcripts clock clock_then files files_then shelves shelves_then =
+    BehindTwenty text_told text_faults components files files_then (λ Y forgets_twenty replies_twenty twenty twenty_then.
+    ClockedRun ticks clock_faults forgets_twenty replies_twenty told faults relay named library bundle journal transcripts clock clock_then twenty twenty_then shelves shelves_then)
+
+-- over the text store and all else that is named
 abbrev pub NamedRun : {C T K : Type 0} → (C → Option Ticks) → (C → ℕ) → (T → Option (Told (List ℕ))) → (T → ℕ) → (K → Option (Told (ℕ × List ℕ))) → (K → ℕ)
-    → Option (List ℕ) → Bool → Option (List ℕ) → PlainBundle → Entries → List PlainTranscript → C → C → T → T → List K → List K → Type 0
-NamedRun ticks clock_faults text_told text_faults told faults place named library bundle journal transcripts clock clock_then files files_then shelves shelves_then =
+    → Option (List ℕ) → Bool → Bool → Bool → Option (List ℕ) → PlainBundle → Entries → List PlainTranscript → C → C → T → T → List K → List K → Type 0
+NamedRun ticks clock_faults text_told text_faults told faults place components relay named library bundle journal transcripts clock clock_then files files_then shelves shelves_then =
     OverText text_told text_faults place bundle files files_then (λ T text_told text_faults files files_then.
-    ClockedRun ticks clock_faults text_told text_faults told faults named library bundle journal transcripts clock clock_then files files_then shelves shelves_then)
+    FiledRun ticks clock_faults text_told text_faults told faults components relay named library bundle journal transcripts clock clock_then files files_then shelves shelves_then)
 
 -- the bytes are the text of a bundle, and the text is the output of a run of it over what is asked for
 pub record IsOutputAs {C T K : Type 0} (ticks : C → Option Ticks) (clock_faults : C → ℕ) (text_told : T → Option (Told (List ℕ))) (text_faults : T → ℕ) (told : K → Option (Told (ℕ × List ℕ))) (faults : K → ℕ)
@@ -131,7 +166,7 @@ pub record IsOutputAs {C T K : Type 0} (ticks : C → Option Ticks) (clock_fault
   pub read : BundleText bytes bundle
   pub transcripts : List PlainTranscript
   pub journal : Entries
-  pub run : NamedRun ticks clock_faults text_told text_faults told faults asked.text asked.clock asked.library bundle journal transcripts clock clock_then files files_then shelves shelves_then
+  pub run : NamedRun ticks clock_faults text_told text_faults told faults asked.text asked.components asked.relay asked.clock asked.library bundle journal transcripts clock clock_then files files_then shelves shelves_then
   pub output : text ≡ output_text transcripts (reverse journal)
   pub printable : ArePrintable transcripts (reverse journal)
 
