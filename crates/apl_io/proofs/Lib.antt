@@ -2,5 +2,5 @@ mod Ascending
 mod Entries
 mod Members
 mod Names
-pub mod Places
+pub mod PlaceLemmas
 mod Streams

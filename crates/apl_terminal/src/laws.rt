@@ -17,5 +17,5 @@ pub fn refused_lines_print_alone()
     ensures feeding { (t : PlainTerminal) (editor : PlainEditor) (line : List ℕ) → fed editor line ≡ None →
         OnlyPrints t (editing line (fed editor line) (echoing (prompt_text editor.number) line t)) }
     ensures showing { (t : PlainTerminal) (line : List ℕ) (shown : List (List ℕ)) → 4194304 < t.workspace.printed + glyph_count shown → OnlyPrints t (showing line shown t) }
-    ensures taking_definition { (t : PlainTerminal) (line : List ℕ) (w : PlainWorkspace) → 4194304 < workspace_weight w → OnlyPrints t (taking_definition line w t) }
+    ensures defining { (t : PlainTerminal) (line : List ℕ) (w : PlainWorkspace) → 4194304 < workspace_weight w → OnlyPrints t (taking_definition line w t) }
 {}

@@ -3,7 +3,7 @@ use Rattle.std.proofs.Common.{◌≡◌, ℕ, List, [], ◌∷◌, Option, sym, 
 use Rattle.apl_arrays.specs.Array.{PlainArray}
 use Rattle.apl_arrays.specs.Name.{name_order}
 use Rattle.apl_io.specs.Content.{Told, KeepsPlaces}
-use Rattle.apl_io.proofs.Places.{both_keep, read_keeps, same_places, write_keeps}
+use Rattle.apl_io.proofs.PlaceLemmas.{both_keep, read_keeps, same_places, write_keeps}
 use Rattle.auxiliaries.specs.Request.{request_of}
 use Rattle.auxiliaries.specs.Protocol.{Step, answers, reads, replaces, protocol_step}
 use Rattle.auxiliaries.specs.Run.{Event, began, answered, IsReplierRun}

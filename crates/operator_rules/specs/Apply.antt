@@ -1,4 +1,4 @@
-use Rattle.std.specs.Prelude.{ℤ, Option, Some, None, Err}
+use Rattle.std.specs.Prelude.{ℤ, Bool, true, false, Option, Some, None, Err}
 use Rattle.apl_arrays.specs.declared.report.Report.TheVariants.{Syntax}
 use Rattle.apl_verbs.specs.declared.verb.Mix1.{Mix1}
 use Rattle.apl_verbs.specs.declared.verb.Mix1.TheVariants as one

@@ -1,7 +1,7 @@
 -- A shelf that serves its user is given no place.
 use Rattle.std.proofs.Common.{◌≡◌, ℕ, List, [], ◌∷◌, Option, sym, subst}
 use Rattle.apl_io.specs.Content.{KeepsPlaces, Told, by_user_and_name}
-use Rattle.apl_io.proofs.Places.{both_keep, list_keeps, read_keeps, remove_keeps, same_places, write_keeps}
+use Rattle.apl_io.proofs.PlaceLemmas.{both_keep, list_keeps, read_keeps, remove_keeps, same_places, write_keeps}
 use Rattle.session_rules.specs.RunLaws.{ShelvesKeepTheirPlaces}
 use Rattle.session_rules.specs.Shelf.{Call, Exchange, IsShelfRun, ShelfReply, Serves, browse, discard, fetch, store}
 

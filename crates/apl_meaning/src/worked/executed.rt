@@ -21,7 +21,7 @@ pub fn executed_texts()
 /// Values that are no text, and texts that are no statement; the second line is that of the line as read, or of the
 /// function's line. The call does nothing.
 pub fn texts_refused()
-    ensures number_value { printed_by (codes "⍎5" ∷ []) ≡ texts (codes "DOMAIN ERROR" ∷ codes "      ⍎5" ∷ []) }
+    ensures number { printed_by (codes "⍎5" ∷ []) ≡ texts (codes "DOMAIN ERROR" ∷ codes "      ⍎5" ∷ []) }
     ensures no_numbers { printed_by (codes "⍎⍳0" ∷ []) ≡ texts (codes "DOMAIN ERROR" ∷ codes "      ⍎⍳0" ∷ []) }
     ensures matrix { printed_by (codes "⍎1 1⍴5" ∷ []) ≡ texts (codes "RANK ERROR" ∷ codes "      ⍎1 1⍴5" ∷ []) }
     ensures inside { printed_by (codes "1+⍎'2'" ∷ []) ≡ texts (codes "SYNTAX ERROR" ∷ codes "      1+⍎'2'" ∷ []) }
