@@ -1,0 +1,34 @@
+-- One of two that may answer behind an auxiliary: which of them it is does not change.
+use Rattle.std.specs.Prelude.{◌≡◌, ℕ, List}
+use Rattle.apl_arrays.specs.Array.{PlainArray}
+use Rattle.auxiliaries.specs.Run.{Event, IsReplierRun}
+use Rattle.aux_choice.specs.declared.chosen.Chosen.{Chosen}
+use Rattle.aux_choice.specs.declared.chosen.Chosen.TheVariants.{First, Second}
+
+module _ {X Y : Type 0} where
+  -- the one that it is begins anew with a party
+  abbrev pub ForgetsChosen : (X → ℕ → X → Type 0) → (Y → ℕ → Y → Type 0) → Chosen X Y → ℕ → Chosen X Y → Type 0
+  ForgetsChosen forgets_first forgets_second (First old) party (First new) = forgets_first old party new
+  ForgetsChosen forgets_first forgets_second (First old) party (Second new) = ⊥
+  ForgetsChosen forgets_first forgets_second (Second old) party (First new) = ⊥
+  ForgetsChosen forgets_first forgets_second (Second old) party (Second new) = forgets_second old party new
+
+  -- the one that it is replies to a party's value
+  abbrev pub RepliesChosen : (X → ℕ → PlainArray → PlainArray → X → Type 0) → (Y → ℕ → PlainArray → PlainArray → Y → Type 0) → Chosen X Y → ℕ → PlainArray → PlainArray → Chosen X Y → Type 0
+  RepliesChosen replies_first replies_second (First old) party value answer (First new) = replies_first old party value answer new
+  RepliesChosen replies_first replies_second (First old) party value answer (Second new) = ⊥
+  RepliesChosen replies_first replies_second (Second old) party value answer (First new) = ⊥
+  RepliesChosen replies_first replies_second (Second old) party value answer (Second new) = replies_second old party value answer new
+
+module _ {X Y : Type 0} (forgets_first : X → ℕ → X → Type 0) (replies_first : X → ℕ → PlainArray → PlainArray → X → Type 0) (forgets_second : Y → ℕ → Y → Type 0) (replies_second : Y → ℕ → PlainArray → PlainArray → Y → Type 0) where
+  -- these events lead what is chosen from one state to another
+  abbrev pub IsChosenRun : Chosen X Y → List Event → Chosen X Y → Type 0
+  IsChosenRun start events end = IsReplierRun (ForgetsChosen forgets_first forgets_second) (RepliesChosen replies_first replies_second) start events end
+
+  -- what begins as the first ends as the first, and its run is a run of that one
+  abbrev pub FirstStays : Type 0
+  FirstStays = (start : X) (events : List Event) (end : Chosen X Y) → IsChosenRun (First start) events end → (last : X) × (end ≡ First last) × IsReplierRun forgets_first replies_first start events last
+
+  -- so it is with the second
+  abbrev pub SecondStays : Type 0
+  SecondStays = (start : Y) (events : List Event) (end : Chosen X Y) → IsChosenRun (Second start) events end → (last : Y) × (end ≡ Second last) × IsReplierRun forgets_second replies_second start events last
