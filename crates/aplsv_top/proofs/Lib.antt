@@ -1,4 +1,6 @@
+pub mod Behind
 pub mod Causes
+pub mod ChosenRuns
 pub mod Clocks
 pub mod Copies
 pub mod Determined

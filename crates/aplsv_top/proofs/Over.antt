@@ -7,17 +7,16 @@ use Rattle.apl_arrays.specs.Parties.{clock_party}
 use Rattle.apl_io.specs.Clock.{Ticks}
 use Rattle.apl_io.specs.Content.{Told}
 use Rattle.apl_io.specs.Kept.{Keeper, Timer}
+use Rattle.aux_parties.specs.declared.auxiliary.AuxiliaryKind.TheVariants.{Clock}
 use Rattle.apl_session.specs.Ended.{IfWhole}
 use Rattle.apl_session.specs.declared.outcome.Ended.{Ended}
 use Rattle.apl_session.specs.declared.outcome.Ended.TheVariants.{Whole, WantOfMemory}
 use Rattle.auxiliaries.specs.Clock.{RepliesByReading}
-use Rattle.auxiliaries.specs.Protocol.{TextState, idle}
+use Rattle.auxiliaries.specs.Protocol.{idle}
 use Rattle.auxiliaries.specs.Run.{IsReplierRun}
-use Rattle.auxiliaries.specs.Served.{Replies, Served, forgotten}
+use Rattle.auxiliaries.specs.Served.{Replies, forgotten}
 use Rattle.aux_components.specs.Filed as component
-use Rattle.aux_components.specs.Filed.{Filed}
 use Rattle.aux_components.specs.Protocol as component_state
-use Rattle.aux_components.specs.Protocol.{FileState}
 use Rattle.aux_relay.specs.Queues.{Queues, Relays}
 use Rattle.aplsv_replay.specs.Replayed.{IsRunInTurns}
 use Rattle.bundle_text.specs.Bundle.{BundleText, PlainBundle}
@@ -28,7 +27,7 @@ use Rattle.sv_journal.specs.Printable.{ArePrintable}
 use Rattle.sv_rules.specs.Entries.{Entries}
 use Rattle.sv_rules.specs.Legal.{IsLegal}
 use Rattle.aplsv_words.specs.Meaning.{Asked}
-use Rattle.aplsv_top.specs.Headline.{ClockedRun, FiledRun, IsOutputAs, IsOutputIn, NamedRun, ShelvedRun, clock_of, shelves_of, text_store_of}
+use Rattle.aplsv_top.specs.Headline.{IsOutputAs, IsOutputIn, NamedRun, OverFiles, ShelvedRun, TwentyRun, clock_of, shelves_of, text_store_of}
 
 -- what devices in memory tell, and their faults
 abbrev pub ticks_of : Timer → Option Ticks
@@ -79,57 +78,63 @@ module _ {X Y K : Type 0} (forgets_ten : X → ℕ → X → Type 0) (replies_te
       turns_parts forgets_ten replies_ten forgets_twenty replies_twenty told_of faults_of bundle journal transcripts ten ten_then twenty twenty_then (shelves_of bundle) over.0 over.1
 
 module _ {C Y K : Type 0} (ticks : C → Option Ticks) (clock_faults : C → ℕ) (forgets_twenty : Y → ℕ → Y → Type 0) (replies_twenty : Y → ℕ → PlainArray → PlainArray → Y → Type 0) (told : K → Option (Told (ℕ × List ℕ))) (faults : K → ℕ) where
-  clocked_parts : (relay named : Bool) (library : Option (List ℕ)) (bundle : PlainBundle) (journal : Entries) (transcripts : List PlainTranscript) (clock clock_then : C) (twenty twenty_then : Y) (shelves shelves_then : List K)
-      → ClockedRun ticks clock_faults forgets_twenty replies_twenty told faults relay named library bundle journal transcripts clock clock_then twenty twenty_then shelves shelves_then → HasParts bundle journal transcripts
-  clocked_parts true named library bundle journal transcripts clock clock_then twenty twenty_then shelves shelves_then over =
+  twenty_parts : (relay named : Bool) (library : Option (List ℕ)) (bundle : PlainBundle) (journal : Entries) (transcripts : List PlainTranscript) (clock clock_then : C) (twenty twenty_then : Y) (shelves shelves_then : List K)
+      → TwentyRun ticks clock_faults forgets_twenty replies_twenty told faults relay named library bundle journal transcripts clock clock_then twenty twenty_then shelves shelves_then → HasParts bundle journal transcripts
+  twenty_parts true named library bundle journal transcripts clock clock_then twenty twenty_then shelves shelves_then over =
       shelved_parts (λ old party new. new ≡ old) Relays forgets_twenty replies_twenty told faults library bundle journal transcripts [] over.0 twenty twenty_then shelves shelves_then over.1
-  clocked_parts false true library bundle journal transcripts clock clock_then twenty twenty_then shelves shelves_then over =
+  twenty_parts false true library bundle journal transcripts clock clock_then twenty twenty_then shelves shelves_then over =
       shelved_parts (λ old party new. new ≡ old) (λ old party value answer new. RepliesByReading ticks clock_faults old value answer new) forgets_twenty replies_twenty told faults library bundle journal transcripts clock clock_then twenty twenty_then
       shelves shelves_then over
-  clocked_parts false false library bundle journal transcripts clock clock_then twenty twenty_then shelves shelves_then over =
+  twenty_parts false false library bundle journal transcripts clock clock_then twenty twenty_then shelves shelves_then over =
       shelved_parts (λ old party new. new ≡ old) (λ old party value answer new. RepliesByReading ticks_of clock_faults_of old value answer new) forgets_twenty replies_twenty told faults library bundle journal transcripts (clock_of bundle) over.0
       twenty twenty_then shelves shelves_then over.1
 
   -- where there is a relay, its replies are those of the journal
-  clocked_relayed : (named : Bool) (library : Option (List ℕ)) (bundle : PlainBundle) (journal : Entries) (transcripts : List PlainTranscript) (clock clock_then : C) (twenty twenty_then : Y) (shelves shelves_then : List K)
-      → ClockedRun ticks clock_faults forgets_twenty replies_twenty told faults true named library bundle journal transcripts clock clock_then twenty twenty_then shelves shelves_then → RelaysThroughout journal
-  clocked_relayed named (Some place) bundle journal transcripts clock clock_then twenty twenty_then shelves shelves_then over = (over.0, over.1.2.run.ten_part.answers)
-  clocked_relayed named None bundle journal transcripts clock clock_then twenty twenty_then shelves shelves_then over = (over.0, over.1.1.run.ten_part.answers)
+  twenty_relayed : (named : Bool) (library : Option (List ℕ)) (bundle : PlainBundle) (journal : Entries) (transcripts : List PlainTranscript) (clock clock_then : C) (twenty twenty_then : Y) (shelves shelves_then : List K)
+      → TwentyRun ticks clock_faults forgets_twenty replies_twenty told faults true named library bundle journal transcripts clock clock_then twenty twenty_then shelves shelves_then → RelaysThroughout journal
+  twenty_relayed named (Some place) bundle journal transcripts clock clock_then twenty twenty_then shelves shelves_then over = (over.0, (over.1.2.run.parts Clock).answers)
+  twenty_relayed named None bundle journal transcripts clock clock_then twenty twenty_then shelves shelves_then over = (over.0, (over.1.1.run.parts Clock).answers)
 
 module _ {C T K : Type 0} (ticks : C → Option Ticks) (clock_faults : C → ℕ) (text_told : T → Option (Told (List ℕ))) (text_faults : T → ℕ) (told : K → Option (Told (ℕ × List ℕ))) (faults : K → ℕ) where
-  filed_parts : (components relay named : Bool) (library : Option (List ℕ)) (bundle : PlainBundle) (journal : Entries) (transcripts : List PlainTranscript) (clock clock_then : C) (files files_then : T) (shelves shelves_then : List K)
-      → FiledRun ticks clock_faults text_told text_faults told faults components relay named library bundle journal transcripts clock clock_then files files_then shelves shelves_then → HasParts bundle journal transcripts
-  filed_parts true relay named library bundle journal transcripts clock clock_then files files_then shelves shelves_then over =
-      clocked_parts ticks clock_faults (λ old party new. new ≡ component.forgotten old) (λ old party value answer new. component.Replies text_told text_faults old value answer new) told faults relay named library bundle journal transcripts
+  -- a run over the files in a store, and all else that is named
+  abbrev pub FilesRun : Bool → Bool → Bool → Option (List ℕ) → PlainBundle → Entries → List PlainTranscript → C → C → T → T → List K → List K → Type 0
+  FilesRun components relay named library bundle journal transcripts clock clock_then files files_then shelves shelves_then =
+      OverFiles text_told text_faults components files files_then (λ Y forgets_twenty replies_twenty twenty twenty_then.
+      TwentyRun ticks clock_faults forgets_twenty replies_twenty told faults relay named library bundle journal transcripts clock clock_then twenty twenty_then shelves shelves_then)
+
+  files_parts : (components relay named : Bool) (library : Option (List ℕ)) (bundle : PlainBundle) (journal : Entries) (transcripts : List PlainTranscript) (clock clock_then : C) (files files_then : T) (shelves shelves_then : List K)
+      → FilesRun components relay named library bundle journal transcripts clock clock_then files files_then shelves shelves_then → HasParts bundle journal transcripts
+  files_parts true relay named library bundle journal transcripts clock clock_then files files_then shelves shelves_then over =
+      twenty_parts ticks clock_faults (λ old party new. new ≡ component.forgotten old) (λ old party value answer new. component.Replies text_told text_faults old value answer new) told faults relay named library bundle journal transcripts
       clock clock_then (record { store = files; state = component_state.idle }) (record { store = files_then; state = over.0 }) shelves shelves_then over.1
-  filed_parts false relay named library bundle journal transcripts clock clock_then files files_then shelves shelves_then over =
-      clocked_parts ticks clock_faults (λ old party new. new ≡ forgotten old) (λ old party value answer new. Replies text_told text_faults old value answer new) told faults relay named library bundle journal transcripts
+  files_parts false relay named library bundle journal transcripts clock clock_then files files_then shelves shelves_then over =
+      twenty_parts ticks clock_faults (λ old party new. new ≡ forgotten old) (λ old party value answer new. Replies text_told text_faults old value answer new) told faults relay named library bundle journal transcripts
       clock clock_then (record { store = files; state = idle }) (record { store = files_then; state = over.0 }) shelves shelves_then over.1
 
-  filed_relayed : (components named : Bool) (library : Option (List ℕ)) (bundle : PlainBundle) (journal : Entries) (transcripts : List PlainTranscript) (clock clock_then : C) (files files_then : T) (shelves shelves_then : List K)
-      → FiledRun ticks clock_faults text_told text_faults told faults components true named library bundle journal transcripts clock clock_then files files_then shelves shelves_then → RelaysThroughout journal
-  filed_relayed true named library bundle journal transcripts clock clock_then files files_then shelves shelves_then over =
-      clocked_relayed ticks clock_faults (λ old party new. new ≡ component.forgotten old) (λ old party value answer new. component.Replies text_told text_faults old value answer new) told faults named library bundle journal transcripts
+  files_relayed : (components named : Bool) (library : Option (List ℕ)) (bundle : PlainBundle) (journal : Entries) (transcripts : List PlainTranscript) (clock clock_then : C) (files files_then : T) (shelves shelves_then : List K)
+      → FilesRun components true named library bundle journal transcripts clock clock_then files files_then shelves shelves_then → RelaysThroughout journal
+  files_relayed true named library bundle journal transcripts clock clock_then files files_then shelves shelves_then over =
+      twenty_relayed ticks clock_faults (λ old party new. new ≡ component.forgotten old) (λ old party value answer new. component.Replies text_told text_faults old value answer new) told faults named library bundle journal transcripts
       clock clock_then (record { store = files; state = component_state.idle }) (record { store = files_then; state = over.0 }) shelves shelves_then over.1
-  filed_relayed false named library bundle journal transcripts clock clock_then files files_then shelves shelves_then over =
-      clocked_relayed ticks clock_faults (λ old party new. new ≡ forgotten old) (λ old party value answer new. Replies text_told text_faults old value answer new) told faults named library bundle journal transcripts
+  files_relayed false named library bundle journal transcripts clock clock_then files files_then shelves shelves_then over =
+      twenty_relayed ticks clock_faults (λ old party new. new ≡ forgotten old) (λ old party value answer new. Replies text_told text_faults old value answer new) told faults named library bundle journal transcripts
       clock clock_then (record { store = files; state = idle }) (record { store = files_then; state = over.0 }) shelves shelves_then over.1
 
 module _ {C T K : Type 0} (ticks : C → Option Ticks) (clock_faults : C → ℕ) (text_told : T → Option (Told (List ℕ))) (text_faults : T → ℕ) (told : K → Option (Told (ℕ × List ℕ))) (faults : K → ℕ) where
   pub named_parts : (place : Option (List ℕ)) (components relay named : Bool) (library : Option (List ℕ)) (bundle : PlainBundle) (journal : Entries) (transcripts : List PlainTranscript) (clock clock_then : C) (files files_then : T) (shelves shelves_then : List K)
       → NamedRun ticks clock_faults text_told text_faults told faults place components relay named library bundle journal transcripts clock clock_then files files_then shelves shelves_then → HasParts bundle journal transcripts
   named_parts (Some place) components relay named library bundle journal transcripts clock clock_then files files_then shelves shelves_then over =
-      filed_parts ticks clock_faults text_told text_faults told faults components relay named library bundle journal transcripts clock clock_then over.0 files_then shelves shelves_then over.2
+      files_parts ticks clock_faults text_told text_faults told faults components relay named library bundle journal transcripts clock clock_then over.0 files_then shelves shelves_then over.2
   named_parts None components relay named library bundle journal transcripts clock clock_then files files_then shelves shelves_then over =
-      filed_parts ticks clock_faults told_of faults_of told faults components relay named library bundle journal transcripts clock clock_then (text_store_of bundle) over.0 shelves shelves_then over.1
+      files_parts ticks clock_faults told_of faults_of told faults components relay named library bundle journal transcripts clock clock_then (text_store_of bundle) over.0 shelves shelves_then over.1
 
   pub named_relayed : (place : Option (List ℕ)) (components relay named : Bool) (library : Option (List ℕ)) (bundle : PlainBundle) (journal : Entries) (transcripts : List PlainTranscript) (clock clock_then : C) (files files_then : T) (shelves shelves_then : List K) → relay ≡ true
       → NamedRun ticks clock_faults text_told text_faults told faults place components relay named library bundle journal transcripts clock clock_then files files_then shelves shelves_then → RelaysThroughout journal
   named_relayed place components false named library bundle journal transcripts clock clock_then files files_then shelves shelves_then is over = absurd (false≢true is)
   named_relayed (Some place) components true named library bundle journal transcripts clock clock_then files files_then shelves shelves_then is over =
-      filed_relayed ticks clock_faults text_told text_faults told faults components named library bundle journal transcripts clock clock_then over.0 files_then shelves shelves_then over.2
+      files_relayed ticks clock_faults text_told text_faults told faults components named library bundle journal transcripts clock clock_then over.0 files_then shelves shelves_then over.2
   named_relayed None components true named library bundle journal transcripts clock clock_then files files_then shelves shelves_then is over =
-      filed_relayed ticks clock_faults told_of faults_of told faults components named library bundle journal transcripts clock clock_then (text_store_of bundle) over.0 shelves shelves_then over.1
+      files_relayed ticks clock_faults told_of faults_of told faults components named library bundle journal transcripts clock clock_then (text_store_of bundle) over.0 shelves shelves_then over.1
 
   -- ---- a run that ended whole
 
@@ -163,43 +168,3 @@ module _ {C T K : Type 0} (ticks : C → Option Ticks) (clock_faults : C → ℕ
         printable = subst (ArePrintable transcripts.items) twice written.1;
       }
   output_as asked bundle bytes text clock clock_then clock_now files files_then files_now shelves shelves_then shelves_now WantOfMemory read run written same_clock same_files same_shelves = absurd written
-
--- what answers behind an auxiliary, by what it is made of, and by what is made of it
-
-pub by_components : {T : Type 0} (Holds : Filed T → Filed T → Type 0) (twenty twenty_then : Filed T) (files files_then : T) → (twenty ≡ (let s : Filed T = record { store = files; state = component_state.idle } in s)) → files_then ≡ twenty_then.store
-    → Holds twenty twenty_then → (state : FileState) × Holds (record { store = files; state = component_state.idle }) (record { store = files_then; state = state })
-by_components {T} Holds twenty twenty_then files files_then begins ends holds = (
-  twenty_then.state,
-  subst (λ (s : Filed T). Holds s (record { store = files_then; state = twenty_then.state })) begins
-      (subst (λ (t : T). Holds twenty (record { store = t; state = twenty_then.state })) (sym ends) holds),
-)
-
-pub by_lines : {T : Type 0} (Holds : Served T → Served T → Type 0) (twenty twenty_then : Served T) (files files_then : T) → (twenty ≡ (let s : Served T = record { store = files; state = idle } in s)) → files_then ≡ twenty_then.store
-    → Holds twenty twenty_then → (state : TextState) × Holds (record { store = files; state = idle }) (record { store = files_then; state = state })
-by_lines {T} Holds twenty twenty_then files files_then begins ends holds = (
-  twenty_then.state,
-  subst (λ (s : Served T). Holds s (record { store = files_then; state = twenty_then.state })) begins
-      (subst (λ (t : T). Holds twenty (record { store = t; state = twenty_then.state })) (sym ends) holds),
-)
-
-pub by_clock : {C : Type 0} (Holds : C → C → Type 0) (ten ten_then clock clock_then : C) → ten ≡ clock → clock_then ≡ ten_then → Holds ten ten_then → Holds clock clock_then
-by_clock {C} Holds ten ten_then clock clock_then begins ends holds = subst (λ (c : C). Holds c clock_then) begins (subst (λ (c : C). Holds ten c) (sym ends) holds)
-
-pub by_relay : (Holds : Queues → Queues → Type 0) (ten ten_then : Queues) → ten ≡ [] → Holds ten ten_then → (queues : Queues) × Holds [] queues
-by_relay Holds ten ten_then empty holds = (ten_then, subst (λ (q : Queues). Holds q ten_then) empty holds)
-
--- over the bundle's readings
-pub over_readings : {Y K : Type 0} (forgets_twenty : Y → ℕ → Y → Type 0) (replies_twenty : Y → ℕ → PlainArray → PlainArray → Y → Type 0) (told : K → Option (Told (ℕ × List ℕ))) (faults : K → ℕ)
-    (library : Option (List ℕ)) (bundle : PlainBundle) (journal : Entries) (transcripts : List PlainTranscript) (clock clock_then : Timer) (twenty twenty_then : Y) (shelves shelves_then : List K) → clock ≡ clock_of bundle
-    → ClockedRun ticks_of clock_faults_of forgets_twenty replies_twenty told faults false true library bundle journal transcripts clock clock_then twenty twenty_then shelves shelves_then
-    → ClockedRun ticks_of clock_faults_of forgets_twenty replies_twenty told faults false false library bundle journal transcripts clock clock_then twenty twenty_then shelves shelves_then
-over_readings forgets_twenty replies_twenty told faults library bundle journal transcripts clock clock_then twenty twenty_then shelves shelves_then is over =
-    (clock_then, subst (λ (c : Timer). ClockedRun ticks_of clock_faults_of forgets_twenty replies_twenty told faults false true library bundle journal transcripts c clock_then twenty twenty_then shelves shelves_then) is over)
-
--- over the bundle's files
-pub over_files : {C K : Type 0} (ticks : C → Option Ticks) (clock_faults : C → ℕ) (told : K → Option (Told (ℕ × List ℕ))) (faults : K → ℕ)
-    (components relay named : Bool) (library : Option (List ℕ)) (bundle : PlainBundle) (journal : Entries) (transcripts : List PlainTranscript) (clock clock_then : C) (files files_then : Keeper (List ℕ)) (shelves shelves_then : List K) → files ≡ text_store_of bundle
-    → FiledRun ticks clock_faults told_of faults_of told faults components relay named library bundle journal transcripts clock clock_then files files_then shelves shelves_then
-    → (kept : Keeper (List ℕ)) × FiledRun ticks clock_faults told_of faults_of told faults components relay named library bundle journal transcripts clock clock_then (text_store_of bundle) kept shelves shelves_then
-over_files ticks clock_faults told faults components relay named library bundle journal transcripts clock clock_then files files_then shelves shelves_then is over =
-    (files_then, subst (λ (t : Keeper (List ℕ)). FiledRun ticks clock_faults told_of faults_of told faults components relay named library bundle journal transcripts clock clock_then t files_then shelves shelves_then) is over)

@@ -4,5 +4,6 @@ pub mod Loads
 pub mod OutputLaws
 pub mod Printed
 pub mod Relayed
+pub mod StoredFiles
 pub mod Summary
 pub mod Words

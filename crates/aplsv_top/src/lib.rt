@@ -1,7 +1,8 @@
 //! The program, from the words of its command line to the bytes that it writes.
 #![tactic(auto)]
 
-mod behind;
+mod behind_ten;
+mod behind_twenty;
 mod bytes;
 mod laws;
 mod loads;

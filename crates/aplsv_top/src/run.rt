@@ -4,8 +4,7 @@ ghost use Rattle.apl_session.specs.Ended.{IfWhole};
 ghost use Rattle.aplsv_words.specs.Meaning.{asked_by};
 ghost use Rattle.aplsv_top.specs.Headline.{NamedRun};
 
-use crate::behind::over_text;
-use crate::memory::memory_text;
+use crate::behind_twenty::{over_bundle_text, over_text};
 use apl_arrays::WantOfMemory;
 use apl_io::{Clock, Shelf, TextStore};
 use apl_session::Ended;
@@ -76,48 +75,5 @@ fn over_placed_text<T: TextStore, C: Clock, K: Shelf>(
             clock,
             shelves,
         },
-    }
-}
-
-// Runs it over its own files.
-fn over_bundle_text<T: TextStore, C: Clock, K: Shelf>(
-    alloc: Global,
-    words: &Words,
-    bundle: Bundle,
-    text: T,
-    clock: C,
-    shelves: Vec<K>,
-) -> Ran<T, C, K>
-    requires shelves { vec_len shelves ≡ most_users }
-    ensures run { IfWhole result.ended (λ transcripts journal. NamedRun C.told C.faults T.told T.faults K.told K.faults None (asked_by words.now).components (asked_by words.now).relay (asked_by words.now).clock (asked_by words.now).library
-        bundle journal transcripts clock result.clock text result.text
-        shelves.items result.shelves.items) }
-    ensures text { result.text ≡ text }
-    ensures clock { (asked_by words.now).clock ≡ false → result.clock ≡ clock }
-    ensures relayed { (asked_by words.now).relay ≡ true → result.clock ≡ clock }
-    ensures library { (asked_by words.now).library ≡ None → result.shelves ≡ shelves }
-{
-    let files = match memory_text(alloc, &bundle) {
-        Ok(files) => files,
-        Err(WantOfMemory) => {
-            return Ran {
-                ended: Ended::WantOfMemory,
-                text,
-                clock,
-                shelves,
-            };
-        }
-    };
-    let Ran {
-        ended,
-        text: _files,
-        clock,
-        shelves,
-    } = over_text(alloc, words, bundle, files, clock, shelves);
-    Ran {
-        ended,
-        text,
-        clock,
-        shelves,
     }
 }
