@@ -98,13 +98,6 @@ module _ {T : Type 0} where
       (copy_done r before after name value
       (seen_if_ok r inside before u (renewed name value) refl ok (whenever r (renewed_keeps inside.workspace name value rules (inside_shared inside m name view shared)))) (seen_if_err r inside before u refl err) fits full)
 
-  -- a copy was not kept, by whether it would fit
-  pub renewed_not : (inside : Inside) (m : PlainInterpreter) (name : List ℕ) (value : PlainArray) (fits : Bool) → plain_interpreter inside ≡ m → IsWorkspace inside.workspace → is_shared_meaning (look m.workspace name) ≡ true
-      → fits ≡ nat_le (workspace_weight (renewed name value inside.workspace)) most_weight → HasDone {T = T} m (with_copy name value) (plain_interpreter inside) (Err (cond fits fail.WantOfMemory (fail.Report WsFull)))
-  renewed_not inside m name value true view rules shared is = tt
-  renewed_not inside m name value false view rules shared is =
-      renewed_done (Err (fail.Report WsFull)) inside m inside.workspace name value view rules shared tt refl tt (kept_heavy (renewed name value inside.workspace) is)
-
   pub renewed_looks : (r : Result T Fail) (w u : PlainWorkspace) (name : List ℕ) (value : PlainArray) → IsWorkspace w → is_shared_meaning (look w name) ≡ true → OnOk r (u ≡ renewed name value w) → OnOk r (look u name ≡ meaning.Shared (Some value))
   renewed_looks (Ok done) w u name value rules shared ok = ap (λ (x : PlainWorkspace). look x name) ok ∙ renewed_value w name value rules shared
   renewed_looks (Err why) w u name value rules shared ok = tt
@@ -117,3 +110,11 @@ marked_keeps w offer copy rules none = let keeps = share_keeps_functions w offer
 -- a name that is no function is none inside
 pub inside_none : (inside : Inside) (m : PlainInterpreter) (name : List ℕ) → plain_interpreter inside ≡ m → is_function_meaning (global_in m.workspace name) ≡ false → is_function_meaning (global_in inside.workspace name) ≡ false
 inside_none inside m name view none = ap (λ (x : PlainInterpreter). is_function_meaning (global_in x.workspace name)) view ∙ none
+
+-- a copy was not kept, by whether it would fit
+pub renewed_not : (T : Type 0) (inside : Inside) (m : PlainInterpreter) (name : List ℕ) (value : PlainArray) (fits : Bool) → plain_interpreter inside ≡ m → IsWorkspace inside.workspace → is_shared_meaning (look m.workspace name) ≡ true
+    → fits ≡ nat_le (workspace_weight (renewed name value inside.workspace)) most_weight → HasDone {T = T} m (with_copy name value) (plain_interpreter inside) (Err (cond fits fail.WantOfMemory (fail.Report WsFull)))
+renewed_not T inside m name value true view rules shared is = tt
+renewed_not T inside m name value false view rules shared is =
+    let refused : Result T Fail = Err (fail.Report WsFull) in
+    renewed_done refused inside m inside.workspace name value view rules shared tt refl tt (kept_heavy (renewed name value inside.workspace) is)

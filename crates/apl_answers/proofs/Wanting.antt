@@ -88,9 +88,9 @@ renewed_room (Err (fail.Report report)) w fact heavy = tt
 renewed_room (Err fail.WantOfMemory) w fact heavy = absurd (cc (heavy.0))
 
 -- a copy for which there is no memory would fit, by whether it would
-pub kept_room : {T : Type 0} (w : PlainWorkspace) (fits : Bool) → fits ≡ nat_le (workspace_weight w) most_weight → OnWantOfMemory {T = T} (Err (cond fits fail.WantOfMemory (fail.Report WsFull))) (workspace_weight w ≤ most_weight)
-kept_room w true is = within (workspace_weight w) most_weight (sym is)
-kept_room w false is = tt
+pub kept_room : (T : Type 0) (w : PlainWorkspace) (fits : Bool) → fits ≡ nat_le (workspace_weight w) most_weight → OnWantOfMemory {T = T} (Err (cond fits fail.WantOfMemory (fail.Report WsFull))) (workspace_weight w ≤ most_weight)
+kept_room T w true is = within (workspace_weight w) most_weight (sym is)
+kept_room T w false is = tt
 
 -- a copy that would not fit is too heavy
 pub kept_heavy : (w : PlainWorkspace) → false ≡ nat_le (workspace_weight w) most_weight → IsTooHeavy w (fail.Report WsFull)

@@ -50,5 +50,5 @@ module _ {C T K : Type 0} (ticks : C → Option Ticks) (clock_faults : C → ℕ
       whole_more ended (λ transcripts journal. IsDeviceRun ticks clock_faults text_told text_faults told faults bundle journal transcripts clock clock_then text text_then shelves shelves_then)
       (λ transcripts journal. KeepsPlaces (text_told text) (text_told text_then))
       (λ transcripts journal run.
-      run_keeps text_told text_faults (record { store = text; state = idle }) (events_of journal text_party) (record { store = text_then; state = run.state }) (run.run.parts TextFiles).answers)
+      run_keeps text_told text_faults (record { store = text; state = idle }) (events_of journal text_party) (record { store = text_then; state = run.state }) (run.run.run.parts TextFiles).answers)
       (device_runs ended clock clock_then ten ten_then text text_then twenty twenty_then begins ends begins_text ends_text whole)

@@ -20,7 +20,7 @@ pub fn set_over_is_taken_out()
     ensures held_for_b { IsHeldFor B set_over_unseen }
     ensures sent { values_sent A (story_in set_over_unseen) (story_before set_over_unseen) ≡ number_value 2 ∷ number_value 1 ∷ [] }
     ensures taken_out { taken_out A (story_in set_over_unseen) (story_before set_over_unseen) ≡ number_value 1 ∷ [] }
-    ensures values_remaining { values_remaining A (story_in set_over_unseen) (story_before set_over_unseen) ≡ number_value 2 ∷ [] }
+    ensures remaining { values_remaining A (story_in set_over_unseen) (story_before set_over_unseen) ≡ number_value 2 ∷ [] }
     ensures used { used_by B (story_in set_over_unseen) ≡ number_value 2 ∷ [] }
     ensures seen { unseen_value A (story_after set_over_unseen) ≡ [] }
     ensures sent_back { values_remaining B (story_in set_over_unseen) (story_before set_over_unseen) ≡ number_value 9 ∷ [] }
@@ -36,7 +36,7 @@ pub fn one_remains_unseen()
     ensures legal { IsLegal users (to_the_end ends_unseen) }
     ensures stretch { IsStretch [] ends_unseen }
     ensures in_the_middle { IsStretch seen_later ends_unseen }
-    ensures values_remaining { values_remaining A (story_in ends_unseen) (story_before ends_unseen) ≡ number_value 2 ∷ [] }
+    ensures remaining { values_remaining A (story_in ends_unseen) (story_before ends_unseen) ≡ number_value 2 ∷ [] }
     ensures used { used_by B (story_in ends_unseen) ≡ [] }
     ensures unseen { unseen_value A (story_after ends_unseen) ≡ number_value 2 ∷ [] }
     ensures two_more { ¬ (length (values_remaining A (story_in ends_unseen) (story_before ends_unseen)) ≡ length (used_by B (story_in ends_unseen)) + 2) }

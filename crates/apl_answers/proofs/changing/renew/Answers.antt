@@ -56,7 +56,8 @@ returns-in-Ok-clause-fits c =
     subst (λ (x : PlainInterpreter). OnOk c.renew.result (workspace_weight (renewed c.args.name.now c.args.value x.workspace) ≤ most_weight)) c.interpreter.view_is c.renew.ensures.fits
 
 pub returns-in-Ok-clause-room : goal.returns-in-Ok-clause-room
-returns-in-Ok-clause-room c = renewed_room c.renew.result _ _ c.renew.ensures.full
+returns-in-Ok-clause-room c =
+    renewed_room c.renew.result (renewed c.args.name.now c.args.value c.interpreter.inside.workspace) (workspace_weight (renewed c.args.name.now c.args.value c.args.interpreter.now.workspace) ≤ most_weight) c.renew.ensures.full
 
 pub returns-in-Err-clause-done : goal.returns-in-Err-clause-done
 returns-in-Err-clause-done c =
@@ -64,11 +65,11 @@ returns-in-Err-clause-done c =
     let rules : IsWorkspace c.interpreter.inside.workspace = inside_rules c.interpreter.inside m c.interpreter.view_is c.rules.ensures in
     subst (λ (f : Fail). HasDone {T = Unit {0}} m (with_copy c.args.name.now c.args.value) m (Err f)) (sym c.not_taken.ensures)
     (subst (λ (x : PlainInterpreter). HasDone {T = Unit {0}} m (with_copy c.args.name.now c.args.value) x (Err (cond c.takes_copy.result fail.WantOfMemory (fail.Report WsFull)))) c.interpreter.view_is
-    (renewed_not {T = Unit {0}} c.interpreter.inside m c.args.name.now c.args.value c.takes_copy.result c.interpreter.view_is rules c.requires.seen c.takes_copy.ensures))
+    (renewed_not (Unit {0}) c.interpreter.inside m c.args.name.now c.args.value c.takes_copy.result c.interpreter.view_is rules c.requires.seen c.takes_copy.ensures))
 
 pub returns-in-Err-clause-room : goal.returns-in-Err-clause-room
 returns-in-Err-clause-room c =
     let kept : OnWantOfMemory {T = Unit {0}} (Err (cond c.takes_copy.result fail.WantOfMemory (fail.Report WsFull))) (workspace_weight (renewed c.args.name.now c.args.value c.interpreter.inside.workspace) ≤ most_weight) =
-    kept_room (renewed c.args.name.now c.args.value c.interpreter.inside.workspace) c.takes_copy.result c.takes_copy.ensures in
+    kept_room (Unit {0}) (renewed c.args.name.now c.args.value c.interpreter.inside.workspace) c.takes_copy.result c.takes_copy.ensures in
     subst (λ (f : Fail). OnWantOfMemory {T = Unit {0}} (Err f) (workspace_weight (renewed c.args.name.now c.args.value c.args.interpreter.now.workspace) ≤ most_weight)) (sym c.not_taken.ensures)
     (subst (λ (x : PlainInterpreter). OnWantOfMemory {T = Unit {0}} (Err (cond c.takes_copy.result fail.WantOfMemory (fail.Report WsFull))) (workspace_weight (renewed c.args.name.now c.args.value x.workspace) ≤ most_weight)) c.interpreter.view_is kept)
