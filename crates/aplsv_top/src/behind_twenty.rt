@@ -1,6 +1,7 @@
 ghost use Rattle.std.specs.Prelude.{◌≡◌, false, None, true, vec_len};
 ghost use Rattle.apl_arrays.specs.Limits.{most_users};
 ghost use Rattle.apl_session.specs.Ended.{IfWhole};
+ghost use Rattle.aux_choice.specs.OneOf.{is_first};
 ghost use Rattle.aplsv_words.specs.Meaning.{asked_by};
 ghost use Rattle.aplsv_top.specs.StoredFiles.{files_in, store_of};
 ghost use Rattle.aplsv_top.specs.Headline.{NamedRun, OverFiles, TwentyRun, text_store_of};
@@ -12,18 +13,19 @@ use apl_arrays::WantOfMemory;
 use apl_io::{Clock, MemoryText, Shelf, TextStore};
 use apl_session::Ended;
 use aplsv_words::Words;
-use aux_choice::{Chosen, Lent};
+use aux_choice::{Choice, Chosen, OneOf};
 use aux_components::Components;
 use auxiliaries::{Replier, TextAux};
 use bundle_text::Bundle;
 use std::alloc::Global;
+use std::marker::Brand;
 
 /// The files in a text store, as they stand behind 20: files of lines, or component files.
-type Files<T> = Chosen<TextAux<T>, Components<T>>;
+type Files<T> = OneOf<TextAux<T>, Components<T>>;
 
 /// What answers behind 20, whatever the words ask for: files in the text store that was handed in, or in the bundle's own. So the
 /// program has one run for each kind of shelf, and not one for each choice.
-type Twenty<'a, T> = Lent<'a, Files<T>, Files<MemoryText>>;
+type Twenty<T> = OneOf<Files<T>, Files<MemoryText>>;
 
 /// Runs a bundle over the files in a text store that was handed in, as component files where the words ask for them and else as
 /// files of lines, and over all else that they ask for. It takes memory for the run.
@@ -43,49 +45,22 @@ pub(crate) fn over_text<T: TextStore, C: Clock, K: Shelf>(
     ensures relayed { (asked_by words.now).relay ≡ true → result.clock ≡ clock }
     ensures library { (asked_by words.now).library ≡ None → result.shelves ≡ shelves }
 {
-    let mut files = files_in(alloc, words.components, text);
+    let files = files_in(alloc, words.components, text);
+    let twenty: Twenty<T> = OneOf::First(files);
     let Ran {
         ended,
-        text: (),
+        text: twenty,
         clock,
         shelves,
-    } = over_lent_files(alloc, words, bundle, &mut files, clock, shelves);
-    Ran {
-        ended,
-        text: store_of(files),
-        clock,
-        shelves,
-    }
-}
-
-// Runs it over files that are lent to the run.
-fn over_lent_files<T: TextStore, C: Clock, K: Shelf>(
-    alloc: Global,
-    words: &Words,
-    bundle: Bundle,
-    files: &mut Files<T>,
-    clock: C,
-    shelves: Vec<K>,
-) -> Ran<(), C, K>
-    requires shelves { vec_len shelves ≡ most_users }
-    ensures run { IfWhole result.ended (λ transcripts journal. TwentyRun C.told C.faults ⟦<Files<T> as Replier>⟧.forgets ⟦<Files<T> as Replier>⟧.replies K.told K.faults (asked_by words.now).relay (asked_by words.now).clock (asked_by words.now).library
-        bundle journal transcripts clock result.clock files.old files.new shelves.items result.shelves.items) }
-    ensures clock { (asked_by words.now).clock ≡ false → result.clock ≡ clock }
-    ensures relayed { (asked_by words.now).relay ≡ true → result.clock ≡ clock }
-    ensures library { (asked_by words.now).library ≡ None → result.shelves ≡ shelves }
-{
-    let twenty: Twenty<T> = Lent::Handed(files);
-    let Ran {
-        ended,
-        text: _lent,
-        clock,
-        shelves,
-    } = over_twenty(alloc, words, bundle, twenty, clock, shelves);
-    Ran {
-        ended,
-        text: (),
-        clock,
-        shelves,
+    } = over_files::<Brand, T, C, K>(alloc, words, bundle, twenty, clock, shelves);
+    match twenty {
+        OneOf::First(files) => Ran {
+            ended,
+            text: store_of(files),
+            clock,
+            shelves,
+        },
+        OneOf::Second(_) => unreachable!(),
     }
 }
 
@@ -140,16 +115,49 @@ fn over_own_text<T: TextStore, C: Clock, K: Shelf>(
     ensures library { (asked_by words.now).library ≡ None → result.shelves ≡ shelves }
 {
     let files = files_in(alloc, words.components, store);
-    let twenty: Twenty<T> = Lent::Own(files);
+    let twenty: Twenty<T> = OneOf::Second(files);
     let Ran {
         ended,
         text: _files,
         clock,
         shelves,
-    } = over_twenty(alloc, words, bundle, twenty, clock, shelves);
+    } = over_files::<Brand, T, C, K>(alloc, words, bundle, twenty, clock, shelves);
     Ran {
         ended,
         text,
+        clock,
+        shelves,
+    }
+}
+
+// Runs it over these, which are those that a choice says, and stay those where memory runs out too.
+fn over_files<P: Choice, T: TextStore, C: Clock, K: Shelf>(
+    alloc: Global,
+    words: &Words,
+    bundle: Bundle,
+    files: Twenty<T>,
+    clock: C,
+    shelves: Vec<K>,
+) -> Ran<Twenty<T>, C, K>
+    requires chosen { is_first files ≡ P.is_first }
+    requires shelves { vec_len shelves ≡ most_users }
+    ensures run { IfWhole result.ended (λ transcripts journal. TwentyRun C.told C.faults ⟦<Twenty<T> as Replier>⟧.forgets ⟦<Twenty<T> as Replier>⟧.replies K.told K.faults (asked_by words.now).relay (asked_by words.now).clock (asked_by words.now).library
+        bundle journal transcripts clock result.clock files result.text shelves.items result.shelves.items) }
+    ensures stays { is_first result.text ≡ is_first files }
+    ensures clock { (asked_by words.now).clock ≡ false → result.clock ≡ clock }
+    ensures relayed { (asked_by words.now).relay ≡ true → result.clock ≡ clock }
+    ensures library { (asked_by words.now).library ≡ None → result.shelves ≡ shelves }
+{
+    let chosen: Chosen<P, Files<T>, Files<MemoryText>> = Chosen::new(files);
+    let Ran {
+        ended,
+        text: files,
+        clock,
+        shelves,
+    } = over_twenty(alloc, words, bundle, chosen, clock, shelves);
+    Ran {
+        ended,
+        text: files.into_one(),
         clock,
         shelves,
     }
@@ -160,9 +168,9 @@ fn files_in<T: TextStore>(alloc: Global, components: bool, store: T) -> Files<T>
     ensures { result ≡ files_in components store }
 {
     if components {
-        Chosen::Second(Components::new(alloc, store))
+        OneOf::Second(Components::new(alloc, store))
     } else {
-        Chosen::First(TextAux::new(alloc, store))
+        OneOf::First(TextAux::new(alloc, store))
     }
 }
 
@@ -171,7 +179,7 @@ fn store_of<T: TextStore>(files: Files<T>) -> T
     ensures { result ≡ store_of files }
 {
     match files {
-        Chosen::First(lines) => lines.into_store(),
-        Chosen::Second(components) => components.into_store(),
+        OneOf::First(lines) => lines.into_store(),
+        OneOf::Second(components) => components.into_store(),
     }
 }

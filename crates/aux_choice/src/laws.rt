@@ -1,5 +1,4 @@
-ghost use Rattle.aux_choice.specs.Choice.{FirstStays, SecondStays};
-ghost use Rattle.aux_choice.specs.Lending.{HandedStays, OwnStays};
+ghost use Rattle.aux_choice.specs.OneOf.{FirstStays, SecondStays};
 
 use auxiliaries::Replier;
 
@@ -7,11 +6,4 @@ use auxiliaries::Replier;
 pub fn choices_stay<X: Replier + Drop, Y: Replier + Drop>()
     ensures first { FirstStays X.forgets X.replies Y.forgets Y.replies }
     ensures second { SecondStays X.forgets X.replies Y.forgets Y.replies }
-{}
-
-/// What is lent is the same thing throughout, and its run is a run of that; so it is with what is the run's own. The call does
-/// nothing.
-pub fn loans_stay<X: Replier + Drop, Y: Replier + Drop>()
-    ensures handed { HandedStays X.forgets X.replies Y.forgets Y.replies }
-    ensures own { OwnStays X.forgets X.replies Y.forgets Y.replies }
 {}

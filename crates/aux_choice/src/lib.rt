@@ -1,10 +1,12 @@
-//! What answers behind a shared variable where it is chosen for a run: one of two, or what is lent to the run and its own.
+//! What answers behind a shared variable where it is chosen for a run: one of two, which it stays.
 #![tactic(auto)]
 
+mod choice;
 mod chosen;
 mod laws;
-mod lent;
+mod one_of;
 
+pub use choice::Choice;
 pub use chosen::Chosen;
-pub use laws::{choices_stay, loans_stay};
-pub use lent::Lent;
+pub use laws::choices_stay;
+pub use one_of::OneOf;
