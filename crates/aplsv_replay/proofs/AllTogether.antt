@@ -32,7 +32,7 @@ use Rattle.aplsv_replay.specs.declared.parties.Parties.{Parties}
 use Rattle.aplsv_replay.specs.declared.seat.UserSeat.{UserSeat}
 use Rattle.replay_rules.specs.Turns.{Replay, AfterTurns, numbers_of, turns_where, user_turns}
 use Rattle.aplsv_replay.proofs.Growth.{AreNone, AreOthers, among_are_others, among_grows, among_stays, events_stay, is_no_user, none_of_people, own_are_others, some_stay_same}
-use Rattle.aplsv_replay.proofs.Kinds.{had_memory, memory_of, memory_of_all, memory_of_users, same_auxiliaries, with_auxiliary}
+use Rattle.aplsv_replay.proofs.KindLemmas.{had_memory, memory_of, memory_of_all, memory_of_users, same_auxiliaries, with_auxiliary}
 use Rattle.aplsv_replay.proofs.Taking.{numbers_by_participants, stays_at}
 use Rattle.aplsv_replay.proofs.SeatTurns.{all_grown_seated, all_grown_whole, not_lost_before, seats_work_stays}
 

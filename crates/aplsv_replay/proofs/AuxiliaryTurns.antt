@@ -30,7 +30,7 @@ use Rattle.aplsv_replay.specs.declared.seat.UserSeat.{UserSeat}
 use Rattle.replay_rules.specs.Turns.{Participant, Replay, AfterAuxiliaryTurn, auxiliary_turn, served, served_by, with_left}
 use Rattle.aplsv_replay.proofs.AllTogether.{auxiliary_keeps}
 use Rattle.aplsv_replay.proofs.Growth.{counted_grows}
-use Rattle.aplsv_replay.proofs.Kinds.{had_memory, is_changed, memory_of, memory_of_all, memory_of_users, stays_lost, with_auxiliary}
+use Rattle.aplsv_replay.proofs.KindLemmas.{had_memory, is_changed, memory_of, memory_of_all, memory_of_users, stays_lost, with_auxiliary}
 use Rattle.aplsv_replay.proofs.SeatTurns.{not_lost_before}
 
 -- ---- as turns of a replay

@@ -48,7 +48,7 @@ use Rattle.replay_rules.specs.Turns.{HasReplies, Participant, Replay, beginning,
 use Rattle.aplsv_replay.proofs.AllTogether.{seats_ascend}
 use Rattle.aplsv_replay.proofs.Bound.{few_rounds}
 use Rattle.aplsv_replay.proofs.Growth.{first_below, others_ascend}
-use Rattle.aplsv_replay.proofs.Kinds.{memory_of, memory_of_users, repliers_are}
+use Rattle.aplsv_replay.proofs.KindLemmas.{memory_of, memory_of_users, repliers_are}
 use Rattle.aplsv_replay.proofs.Taking.{takes_both}
 
 -- ---- the beginning

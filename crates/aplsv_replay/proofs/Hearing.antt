@@ -24,7 +24,7 @@ use Rattle.session_rules.specs.Shelf.{ShelfReply}
 use Rattle.session_rules.proofs.Taking.{full_is_rare, none_leaves}
 use Rattle.replay_rules.specs.SoFar.{IsSoFar, IsWaitedFor}
 use Rattle.replay_rules.specs.SoFarLaws.{Asks, user_with_answer}
-use Rattle.replay_rules.specs.Turns.{Participant, AfterTurn, answer_given}
+use Rattle.replay_rules.specs.Turns.{Participant, AfterTurn, answer_given, turn}
 use Rattle.replay_rules.proofs.SoFar.{answered_on, held_on, refused_on}
 use Rattle.replay_rules.proofs.UserTurns.{turn_is}
 use Rattle.apl_session.specs.PlainSession.{PlainSession}

@@ -8,7 +8,7 @@ pub mod Ends
 pub mod Filling
 pub mod Growth
 pub mod Hearing
-pub mod Kinds
+pub mod KindLemmas
 pub mod Leaving
 pub mod Making
 pub mod OneTurn

@@ -13,7 +13,7 @@ use Rattle.aplsv_replay.specs.declared.auxiliary.Auxiliary.{Auxiliary}
 use Rattle.aplsv_replay.specs.declared.parties.Parties.{Parties}
 use Rattle.aplsv_replay.proofs.AllTogether.{is_auxiliary_of, same_work, still_stay}
 use Rattle.aplsv_replay.proofs.AuxiliaryTurns.{auxiliary_leaves_less, lost_still, takes_auxiliary}
-use Rattle.aplsv_replay.proofs.Kinds.{is_changed, with_auxiliary}
+use Rattle.aplsv_replay.proofs.KindLemmas.{is_changed, with_auxiliary}
 
 module _ {X Y K : Type 0} (forgets_ten : X → ℕ → X → Type 0) (replies_ten : X → ℕ → PlainArray → PlainArray → X → Type 0)
     (forgets_twenty : Y → ℕ → Y → Type 0) (replies_twenty : Y → ℕ → PlainArray → PlainArray → Y → Type 0)

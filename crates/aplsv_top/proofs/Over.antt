@@ -18,7 +18,7 @@ use Rattle.auxiliaries.specs.Served.{Replies, forgotten}
 use Rattle.aux_components.specs.Filed as component
 use Rattle.aux_components.specs.Protocol as component_state
 use Rattle.aux_relay.specs.Queues.{Queues, Relays}
-use Rattle.aplsv_replay.specs.Replayed.{IsRunInTurns}
+use Rattle.aplsv_replay.specs.Replayed.{IsDeviceRun, IsRunInTurns}
 use Rattle.bundle_text.specs.Bundle.{BundleText, PlainBundle}
 use Rattle.session_rules.specs.Auxiliaries.{events_of}
 use Rattle.session_rules.specs.Run.{AreUserParts, Dealings, user_numbers}
@@ -27,7 +27,7 @@ use Rattle.sv_journal.specs.Printable.{ArePrintable}
 use Rattle.sv_rules.specs.Entries.{Entries}
 use Rattle.sv_rules.specs.Legal.{IsLegal}
 use Rattle.aplsv_words.specs.Meaning.{Asked}
-use Rattle.aplsv_top.specs.Headline.{IsOutputAs, IsOutputIn, NamedRun, OverFiles, ShelvedRun, TwentyRun, clock_of, shelves_of, text_store_of}
+use Rattle.aplsv_top.specs.Headline.{IsOutputAs, IsOutputIn, IsOutputOf, NamedRun, OverFiles, ShelvedRun, TwentyRun, clock_of, shelves_of, text_store_of}
 
 -- what devices in memory tell, and their faults
 abbrev pub ticks_of : Timer → Option Ticks
@@ -168,3 +168,23 @@ module _ {C T K : Type 0} (ticks : C → Option Ticks) (clock_faults : C → ℕ
         printable = subst (ArePrintable transcripts.items) twice written.1;
       }
   output_as asked bundle bytes text clock clock_then clock_now files files_then files_now shelves shelves_then shelves_now WantOfMemory read run written same_clock same_files same_shelves = absurd written
+
+-- what is written of a run over the bundle's own readings, files and shelves is its output
+pub own_written : (bundle : PlainBundle) (text : List ℕ) (clock clock_then : Timer) (files files_then : Keeper (List ℕ)) (shelves shelves_then : List (Keeper (ℕ × List ℕ))) (ended : Ended)
+    → clock ≡ clock_of bundle → files ≡ text_store_of bundle → shelves ≡ shelves_of bundle
+    → IfWhole ended (λ transcripts journal. IsDeviceRun ticks_of clock_faults_of told_of faults_of told_of faults_of bundle journal transcripts clock clock_then files files_then shelves shelves_then)
+    → IsOutputIn ended text → IsOutputOf bundle text
+own_written bundle text clock clock_then files files_then shelves shelves_then (Whole transcripts journal) of_clock of_files of_shelves run written =
+    let twice : journal.items ≡ reverse (reverse journal.items) = sym (reverse-reverse journal.items) in
+    record {
+      transcripts = transcripts.items;
+      journal = reverse journal.items;
+      clock = clock_then;
+      files = files_then;
+      shelves = shelves_then;
+      run = subst (λ (k : List (Keeper (ℕ × List ℕ))). IsDeviceRun ticks_of clock_faults_of told_of faults_of told_of faults_of bundle (reverse journal.items) transcripts.items (clock_of bundle) clock_then (text_store_of bundle) files_then k shelves_then) of_shelves
+          (subst₂ (λ (c : Timer) (t : Keeper (List ℕ)). IsDeviceRun ticks_of clock_faults_of told_of faults_of told_of faults_of bundle (reverse journal.items) transcripts.items c clock_then t files_then shelves shelves_then) of_clock of_files run);
+      output = written.0 ∙ ap (output_text transcripts.items) twice;
+      printable = subst (ArePrintable transcripts.items) twice written.1;
+    }
+own_written bundle text clock clock_then files files_then shelves shelves_then WantOfMemory of_clock of_files of_shelves run written = absurd written

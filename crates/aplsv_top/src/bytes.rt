@@ -4,9 +4,9 @@ ghost use Rattle.bundle_text.specs.Refused.{IsRefusal};
 ghost use Rattle.aplsv_top.specs.Headline.{IsOutputOf, IsOutputFor};
 
 use crate::memory::memory_devices;
-use crate::output::output_of;
+use crate::output::output_in;
 use apl_arrays::{Bytes, WantOfMemory};
-use apl_session::{Ended, FinishedRun};
+use apl_session::FinishedRun;
 use aplsv_replay::replay;
 use bundle_text::{Bundle, BundleRefused, BundleRule, read};
 use std::alloc::Global;
@@ -35,11 +35,5 @@ fn output_for(alloc: Global, bundle: Bundle) -> Result<Bytes, WantOfMemory>
         ended,
         devices: _devices,
     } = replay(alloc, bundle, devices);
-    match ended {
-        Ended::Whole {
-            transcripts,
-            journal,
-        } => output_of(alloc, &transcripts, journal.as_slice()),
-        Ended::WantOfMemory => Err(WantOfMemory),
-    }
+    output_in(alloc, ended)
 }

@@ -1,11 +1,10 @@
-ghost use Rattle.std.specs.Prelude.{◌≡◌, ◌≤◌, [], IfOk, length, map, vec_len};
+ghost use Rattle.std.specs.Prelude.{◌≡◌, ◌≤◌, IfOk, length, map, vec_len};
 ghost use Rattle.apl_arrays.specs.FileList.{IsAscending, plain_file};
-ghost use Rattle.apl_io.specs.Kept.{new_keeper};
 ghost use Rattle.aplsv_top.specs.Headline.{clock_of, shelves_of, text_store_of};
 
 use apl_arrays::{File, FileList, List, WantOfMemory};
 use apl_io::{CallNumbers, Devices, MemoryClock, MemoryShelf, MemoryText};
-use bundle_text::{Bundle, BundleUser};
+use bundle_text::Bundle;
 use std::alloc::Global;
 
 /// Devices in memory that never fail: the bundle's files and readings, and an empty shelf for each user. It takes memory
@@ -50,13 +49,7 @@ pub(crate) fn memory_shelves(
     ensures shelves { IfOk result (λ shelves. shelves.items ≡ shelves_of bundle.now) }
     ensures enough { IfOk result (λ shelves. length bundle.now.users ≤ vec_len shelves) }
 {
-    empty_shelves(alloc, bundle.users())
-}
-
-// A shelf without an entry for each of these users.
-fn empty_shelves(alloc: Global, users: &[BundleUser]) -> Result<Vec<MemoryShelf>, WantOfMemory>
-    ensures { IfOk result (λ shelves. shelves.items ≡ map (λ user. new_keeper [] []) users.now) }
-{
+    let users = bundle.users();
     let mut shelves = Vec::new(alloc);
     for _user in users {
         shelves.push(MemoryShelf::new(alloc, CallNumbers::new(alloc)))?;

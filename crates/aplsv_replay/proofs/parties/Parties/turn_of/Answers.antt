@@ -3,7 +3,7 @@ use Rattle.aux_parties.specs.declared.auxiliary.AuxiliaryKind.{AuxiliaryKind}
 use Rattle.aux_parties.specs.declared.auxiliary.AuxiliaryKind.TheVariants.{Clock, TextFiles}
 use Rattle.aplsv_replay.specs.Together.{TookAuxiliaryTurn}
 use Rattle.aplsv_replay.proofs.AllTogether.{is_auxiliary_of}
-use Rattle.aplsv_replay.proofs.Kinds.{with_auxiliary}
+use Rattle.aplsv_replay.proofs.KindLemmas.{with_auxiliary}
 use Rattle.aplsv_replay.proofs.OneTurn.{auxiliary_took_turn}
 use Rattle.aplsv_replay.proofs.parties.Parties.turn_of.Goals as goal
 
