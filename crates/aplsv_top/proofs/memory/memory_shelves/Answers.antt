@@ -11,8 +11,8 @@ empty user = new_keeper [] []
 
 pub returns-clause-shelves : goal.returns-clause-shelves
 returns-clause-shelves c =
-    let users = c.users.result.now in
+    let users = c.users-users.result.now in
     c.loop-user.invariant
     ∙ ap (λ (list : List BundleUser). map (λ user. empty (plain_user user)) list) (take_all c.loop-user._user-index users c.loop-user-test.false)
     ∙ sym (map-map empty plain_user users)
-    ∙ ap (map empty) c.users.ensures.value
+    ∙ ap (map empty) c.users-users.ensures.value

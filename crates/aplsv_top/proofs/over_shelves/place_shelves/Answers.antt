@@ -17,7 +17,7 @@ loop-at-preserved g c =
     let all : length c.loop-at.shelves.items ≡ length c.args.shelves.now.items = omega (arith, c.loop-at.invariant.many) in
     record {
       tell =
-          one_more_changed g.K.Shelf.told (option_map (placed c.args.place.now)) c.loop-at.shelves.items c.args.shelves.now.items c.loop-at.at c.set_place.new.self few all c.loop-at.invariant.tell c.loop-at.invariant.others
+          one_more_changed g.K.Shelf.told (option_map (placed c.args.place.now)) c.loop-at.shelves.items c.args.shelves.now.items c.loop-at.at c.set_place.new.self c.index_mut.result.now few all c.loop-at.invariant.tell c.loop-at.invariant.others
           (c.in_ok-set_place.ensures.ok ∙ ap (λ k. option_map (placed c.args.place.now) (g.K.Shelf.told k)) c.index_mut.ensures.value);
       counted =
           none_fell_set g.K.Shelf.faults c.args.shelves.now.items c.loop-at.shelves.items c.loop-at.at c.set_place.new.self c.index_mut.result.now c.loop-at.invariant.counted

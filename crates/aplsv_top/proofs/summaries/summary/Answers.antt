@@ -26,7 +26,7 @@ returns c =
     let three : c.add_counted-3.new.bytes.items ≡ (a ++ b) ++ d = c.in_ok-add_counted-3.ensures ∙ ap (λ (before : List ℕ). before ++ d) two in
     let four : c.add_counted-4.new.bytes.items ≡ ((a ++ b) ++ d) ++ e = c.in_ok-add_counted-4.ensures ∙ ap (λ (before : List ℕ). before ++ e) three in
     let five : c.add_content.new.bytes.items ≡ (((a ++ b) ++ d) ++ e) ++ line_text (content last) = c.in_ok-add_content.ensures.text ∙ ap (λ (before : List ℕ). before ++ line_text (content last)) four in
-    let all : c.add_word.new.bytes.items ≡ ((((a ++ b) ++ d) ++ e) ++ line_text (content last)) ++ line_text end_line = c.in_ok-add_word.ensures ∙ ap (λ (before : List ℕ). before ++ line_text end_line) five in
+    let all : c.add_word.new.bytes.items ≡ ((((a ++ b) ++ d) ++ e) ++ line_text (content last)) ++ line_text end_line = c.in_ok-add_word.ensures.text ∙ ap (λ (before : List ℕ). before ++ line_text end_line) five in
     let grouped : ((((a ++ b) ++ d) ++ e) ++ line_text (content last)) ++ line_text end_line ≡ lines_of c.from.result (length c.args.journal.now) c.held_count.result c.in_ok-lines.lines last =
     six a b d e (line_text (content last)) (line_text end_line) in
     let given : c.from.result ≡ c.args.n = c.from.ensures in
