@@ -1,6 +1,5 @@
 pub mod Behind
 pub mod Causes
-pub mod ChosenRuns
 pub mod Clocks
 pub mod Copies
 pub mod Determined
@@ -11,6 +10,7 @@ pub mod Level
 pub mod LoadCauses
 pub mod LoadRuns
 pub mod Older
+pub mod OneOfRuns
 pub mod OneOutput
 pub mod OneReplay
 pub mod OneReply

@@ -1,18 +1,13 @@
--- A run over what was chosen is a run over the one that it is, and a run over what is lent is one over that.
+-- A run over one of two is a run over the one that it is.
 use Rattle.std.proofs.Common.{◌≡◌, ℕ, Bool, true, false, List, [], None, Option, Some}
-use Rattle.std.specs.Borrow.{MutBor}
 use Rattle.apl_arrays.specs.Array.{PlainArray}
 use Rattle.apl_arrays.specs.Parties.{clock_party, text_party}
 use Rattle.apl_io.specs.Clock.{Ticks}
 use Rattle.apl_io.specs.Content.{Told}
-use Rattle.aux_choice.specs.Choice.{ForgetsChosen, RepliesChosen}
-use Rattle.aux_choice.specs.Lending.{ForgetsLent, IsSameLoan, RepliesLent}
-use Rattle.aux_choice.specs.declared.chosen.Chosen.{Chosen}
-use Rattle.aux_choice.specs.declared.chosen.Chosen.TheVariants.{First, Second}
-use Rattle.aux_choice.specs.declared.lent.Lent.{Lent}
-use Rattle.aux_choice.specs.declared.lent.Lent.TheVariants.{Handed, Own}
+use Rattle.aux_choice.specs.OneOf.{Forgets, Replies}
+use Rattle.aux_choice.specs.declared.one_of.OneOf.{OneOf}
+use Rattle.aux_choice.specs.declared.one_of.OneOf.TheVariants.{First, Second}
 use Rattle.aux_choice.proofs.ChoiceLemmas.{first_stays, second_stays}
-use Rattle.aux_choice.proofs.LendingLemmas.{handed_stays, own_stays}
 use Rattle.aux_parties.specs.Auxiliaries.{party_of}
 use Rattle.aux_parties.specs.declared.auxiliary.AuxiliaryKind.{AuxiliaryKind}
 use Rattle.aux_parties.specs.declared.auxiliary.AuxiliaryKind.TheVariants.{Clock, TextFiles}
@@ -155,132 +150,68 @@ module _ {C Y Z K : Type 0} (ticks : C → Option Ticks) (clock_faults : C → �
         twenty twenty_then other other_then (clock_of bundle) over.0 shelves shelves_then library answers over.1,
   )
 
--- ---- behind 10: the first of two or the second, and what is lent or the run's own
+-- ---- behind 10: the first of two, or the second
 
 module _ {A B Y K : Type 0} (forgets_first : A → ℕ → A → Type 0) (replies_first : A → ℕ → PlainArray → PlainArray → A → Type 0) (forgets_second : B → ℕ → B → Type 0) (replies_second : B → ℕ → PlainArray → PlainArray → B → Type 0)
     (forgets_twenty : Y → ℕ → Y → Type 0) (replies_twenty : Y → ℕ → PlainArray → PlainArray → Y → Type 0) (told : K → Option (Told (ℕ × List ℕ))) (faults : K → ℕ)
-    (library : Option (List ℕ)) (bundle : PlainBundle) (journal : Entries) (transcripts : List PlainTranscript) (end : Chosen A B) (twenty twenty_then : Y) (shelves shelves_then : List K) where
-  abbrev ChosenTen : Chosen A B → Type 0
-  ChosenTen start =
-      ShelvedRun (ForgetsChosen forgets_first forgets_second) (RepliesChosen replies_first replies_second) forgets_twenty replies_twenty told faults library bundle journal transcripts start end twenty twenty_then shelves shelves_then
+    (library : Option (List ℕ)) (bundle : PlainBundle) (journal : Entries) (transcripts : List PlainTranscript) (end : OneOf A B) (twenty twenty_then : Y) (shelves shelves_then : List K) where
+  abbrev RunOfTen : OneOf A B → Type 0
+  RunOfTen start =
+      ShelvedRun (Forgets forgets_first forgets_second) (Replies replies_first replies_second) forgets_twenty replies_twenty told faults library bundle journal transcripts start end twenty twenty_then shelves shelves_then
 
-  pub ten_is_first : (start : A) → ChosenTen (First start)
+  pub ten_is_first : (start : A) → RunOfTen (First start)
       → (last : A) × (end ≡ First last) × ShelvedRun forgets_first replies_first forgets_twenty replies_twenty told faults library bundle journal transcripts start last twenty twenty_then shelves shelves_then
   ten_is_first start over =
       let stays =
       first_stays forgets_first replies_first forgets_second replies_second start (events_of journal clock_party) end
-      (shelved_ten (ForgetsChosen forgets_first forgets_second) (RepliesChosen replies_first replies_second) forgets_twenty replies_twenty told faults bundle journal transcripts (First start) end twenty twenty_then shelves shelves_then library over) in (
+      (shelved_ten (Forgets forgets_first forgets_second) (Replies replies_first replies_second) forgets_twenty replies_twenty told faults bundle journal transcripts (First start) end twenty twenty_then shelves shelves_then library over) in (
         stays.0,
         stays.1,
-        shelved_with_ten (ForgetsChosen forgets_first forgets_second) (RepliesChosen replies_first replies_second) forgets_first replies_first forgets_twenty replies_twenty told faults bundle journal transcripts (First start) end start stays.0 twenty twenty_then
+        shelved_with_ten (Forgets forgets_first forgets_second) (Replies replies_first replies_second) forgets_first replies_first forgets_twenty replies_twenty told faults bundle journal transcripts (First start) end start stays.0 twenty twenty_then
             shelves shelves_then library stays.2 over,
       )
 
-  pub ten_is_second : (start : B) → ChosenTen (Second start)
+  pub ten_is_second : (start : B) → RunOfTen (Second start)
       → (last : B) × (end ≡ Second last) × ShelvedRun forgets_second replies_second forgets_twenty replies_twenty told faults library bundle journal transcripts start last twenty twenty_then shelves shelves_then
   ten_is_second start over =
       let stays =
       second_stays forgets_first replies_first forgets_second replies_second start (events_of journal clock_party) end
-      (shelved_ten (ForgetsChosen forgets_first forgets_second) (RepliesChosen replies_first replies_second) forgets_twenty replies_twenty told faults bundle journal transcripts (Second start) end twenty twenty_then shelves shelves_then library over) in (
+      (shelved_ten (Forgets forgets_first forgets_second) (Replies replies_first replies_second) forgets_twenty replies_twenty told faults bundle journal transcripts (Second start) end twenty twenty_then shelves shelves_then library over) in (
         stays.0,
         stays.1,
-        shelved_with_ten (ForgetsChosen forgets_first forgets_second) (RepliesChosen replies_first replies_second) forgets_second replies_second forgets_twenty replies_twenty told faults bundle journal transcripts (Second start) end start stays.0 twenty twenty_then
+        shelved_with_ten (Forgets forgets_first forgets_second) (Replies replies_first replies_second) forgets_second replies_second forgets_twenty replies_twenty told faults bundle journal transcripts (Second start) end start stays.0 twenty twenty_then
             shelves shelves_then library stays.2 over,
-      )
-
-module _ {A B Y K : Type 0} (forgets_handed : A → ℕ → A → Type 0) (replies_handed : A → ℕ → PlainArray → PlainArray → A → Type 0) (forgets_own : B → ℕ → B → Type 0) (replies_own : B → ℕ → PlainArray → PlainArray → B → Type 0)
-    (forgets_twenty : Y → ℕ → Y → Type 0) (replies_twenty : Y → ℕ → PlainArray → PlainArray → Y → Type 0) (told : K → Option (Told (ℕ × List ℕ))) (faults : K → ℕ)
-    (library : Option (List ℕ)) (bundle : PlainBundle) (journal : Entries) (transcripts : List PlainTranscript) (end : Lent A B) (twenty twenty_then : Y) (shelves shelves_then : List K) where
-  abbrev LentTen : Lent A B → Type 0
-  LentTen start =
-      ShelvedRun (ForgetsLent forgets_handed forgets_own) (RepliesLent replies_handed replies_own) forgets_twenty replies_twenty told faults library bundle journal transcripts start end twenty twenty_then shelves shelves_then
-
-  pub ten_is_handed : (start : MutBor A) → LentTen (Handed start)
-      → (last : MutBor A) × (end ≡ Handed last) × IsSameLoan start last × ShelvedRun forgets_handed replies_handed forgets_twenty replies_twenty told faults library bundle journal transcripts start.now last.now twenty twenty_then shelves shelves_then
-  ten_is_handed start over =
-      let stays =
-      handed_stays forgets_handed replies_handed forgets_own replies_own start (events_of journal clock_party) end
-      (shelved_ten (ForgetsLent forgets_handed forgets_own) (RepliesLent replies_handed replies_own) forgets_twenty replies_twenty told faults bundle journal transcripts (Handed start) end twenty twenty_then shelves shelves_then library over) in (
-        stays.0,
-        stays.1,
-        stays.2,
-        shelved_with_ten (ForgetsLent forgets_handed forgets_own) (RepliesLent replies_handed replies_own) forgets_handed replies_handed forgets_twenty replies_twenty told faults bundle journal transcripts (Handed start) end start.now stays.0.now
-            twenty twenty_then shelves shelves_then library stays.3 over,
-      )
-
-  pub ten_is_own : (start : B) → LentTen (Own start)
-      → (last : B) × (end ≡ Own last) × ShelvedRun forgets_own replies_own forgets_twenty replies_twenty told faults library bundle journal transcripts start last twenty twenty_then shelves shelves_then
-  ten_is_own start over =
-      let stays =
-      own_stays forgets_handed replies_handed forgets_own replies_own start (events_of journal clock_party) end
-      (shelved_ten (ForgetsLent forgets_handed forgets_own) (RepliesLent replies_handed replies_own) forgets_twenty replies_twenty told faults bundle journal transcripts (Own start) end twenty twenty_then shelves shelves_then library over) in (
-        stays.0,
-        stays.1,
-        shelved_with_ten (ForgetsLent forgets_handed forgets_own) (RepliesLent replies_handed replies_own) forgets_own replies_own forgets_twenty replies_twenty told faults bundle journal transcripts (Own start) end start stays.0
-            twenty twenty_then shelves shelves_then library stays.2 over,
       )
 
 -- ---- and behind 20
 
 module _ {A B C K : Type 0} (ticks : C → Option Ticks) (clock_faults : C → ℕ) (forgets_first : A → ℕ → A → Type 0) (replies_first : A → ℕ → PlainArray → PlainArray → A → Type 0) (forgets_second : B → ℕ → B → Type 0)
     (replies_second : B → ℕ → PlainArray → PlainArray → B → Type 0) (told : K → Option (Told (ℕ × List ℕ))) (faults : K → ℕ)
-    (relay named : Bool) (library : Option (List ℕ)) (bundle : PlainBundle) (journal : Entries) (transcripts : List PlainTranscript) (clock clock_then : C) (end : Chosen A B) (shelves shelves_then : List K) where
-  abbrev ChosenTwenty : Chosen A B → Type 0
-  ChosenTwenty start =
-      TwentyRun ticks clock_faults (ForgetsChosen forgets_first forgets_second) (RepliesChosen replies_first replies_second) told faults relay named library bundle journal transcripts clock clock_then start end shelves shelves_then
+    (relay named : Bool) (library : Option (List ℕ)) (bundle : PlainBundle) (journal : Entries) (transcripts : List PlainTranscript) (clock clock_then : C) (end : OneOf A B) (shelves shelves_then : List K) where
+  abbrev RunOfTwenty : OneOf A B → Type 0
+  RunOfTwenty start =
+      TwentyRun ticks clock_faults (Forgets forgets_first forgets_second) (Replies replies_first replies_second) told faults relay named library bundle journal transcripts clock clock_then start end shelves shelves_then
 
-  pub twenty_is_first : (start : A) → ChosenTwenty (First start)
+  pub twenty_is_first : (start : A) → RunOfTwenty (First start)
       → (last : A) × (end ≡ First last) × TwentyRun ticks clock_faults forgets_first replies_first told faults relay named library bundle journal transcripts clock clock_then start last shelves shelves_then
   twenty_is_first start over =
       let stays =
       first_stays forgets_first replies_first forgets_second replies_second start (events_of journal text_party) end
-      (twenty_answers ticks clock_faults (ForgetsChosen forgets_first forgets_second) (RepliesChosen replies_first replies_second) told faults library bundle journal transcripts clock clock_then (First start) end shelves shelves_then relay named over) in (
+      (twenty_answers ticks clock_faults (Forgets forgets_first forgets_second) (Replies replies_first replies_second) told faults library bundle journal transcripts clock clock_then (First start) end shelves shelves_then relay named over) in (
         stays.0,
         stays.1,
-        with_twenty ticks clock_faults (ForgetsChosen forgets_first forgets_second) (RepliesChosen replies_first replies_second) forgets_first replies_first told faults library bundle journal transcripts clock clock_then (First start) end start stays.0
+        with_twenty ticks clock_faults (Forgets forgets_first forgets_second) (Replies replies_first replies_second) forgets_first replies_first told faults library bundle journal transcripts clock clock_then (First start) end start stays.0
             shelves shelves_then relay named stays.2 over,
       )
 
-  pub twenty_is_second : (start : B) → ChosenTwenty (Second start)
+  pub twenty_is_second : (start : B) → RunOfTwenty (Second start)
       → (last : B) × (end ≡ Second last) × TwentyRun ticks clock_faults forgets_second replies_second told faults relay named library bundle journal transcripts clock clock_then start last shelves shelves_then
   twenty_is_second start over =
       let stays =
       second_stays forgets_first replies_first forgets_second replies_second start (events_of journal text_party) end
-      (twenty_answers ticks clock_faults (ForgetsChosen forgets_first forgets_second) (RepliesChosen replies_first replies_second) told faults library bundle journal transcripts clock clock_then (Second start) end shelves shelves_then relay named over) in (
+      (twenty_answers ticks clock_faults (Forgets forgets_first forgets_second) (Replies replies_first replies_second) told faults library bundle journal transcripts clock clock_then (Second start) end shelves shelves_then relay named over) in (
         stays.0,
         stays.1,
-        with_twenty ticks clock_faults (ForgetsChosen forgets_first forgets_second) (RepliesChosen replies_first replies_second) forgets_second replies_second told faults library bundle journal transcripts clock clock_then (Second start) end start stays.0
-            shelves shelves_then relay named stays.2 over,
-      )
-
-module _ {A B C K : Type 0} (ticks : C → Option Ticks) (clock_faults : C → ℕ) (forgets_handed : A → ℕ → A → Type 0) (replies_handed : A → ℕ → PlainArray → PlainArray → A → Type 0) (forgets_own : B → ℕ → B → Type 0)
-    (replies_own : B → ℕ → PlainArray → PlainArray → B → Type 0) (told : K → Option (Told (ℕ × List ℕ))) (faults : K → ℕ)
-    (relay named : Bool) (library : Option (List ℕ)) (bundle : PlainBundle) (journal : Entries) (transcripts : List PlainTranscript) (clock clock_then : C) (end : Lent A B) (shelves shelves_then : List K) where
-  abbrev LentTwenty : Lent A B → Type 0
-  LentTwenty start =
-      TwentyRun ticks clock_faults (ForgetsLent forgets_handed forgets_own) (RepliesLent replies_handed replies_own) told faults relay named library bundle journal transcripts clock clock_then start end shelves shelves_then
-
-  pub twenty_is_handed : (start : MutBor A) → LentTwenty (Handed start)
-      → (last : MutBor A) × (end ≡ Handed last) × IsSameLoan start last × TwentyRun ticks clock_faults forgets_handed replies_handed told faults relay named library bundle journal transcripts clock clock_then start.now last.now shelves shelves_then
-  twenty_is_handed start over =
-      let stays =
-      handed_stays forgets_handed replies_handed forgets_own replies_own start (events_of journal text_party) end
-      (twenty_answers ticks clock_faults (ForgetsLent forgets_handed forgets_own) (RepliesLent replies_handed replies_own) told faults library bundle journal transcripts clock clock_then (Handed start) end shelves shelves_then relay named over) in (
-        stays.0,
-        stays.1,
-        stays.2,
-        with_twenty ticks clock_faults (ForgetsLent forgets_handed forgets_own) (RepliesLent replies_handed replies_own) forgets_handed replies_handed told faults library bundle journal transcripts clock clock_then (Handed start) end start.now stays.0.now
-            shelves shelves_then relay named stays.3 over,
-      )
-
-  pub twenty_is_own : (start : B) → LentTwenty (Own start)
-      → (last : B) × (end ≡ Own last) × TwentyRun ticks clock_faults forgets_own replies_own told faults relay named library bundle journal transcripts clock clock_then start last shelves shelves_then
-  twenty_is_own start over =
-      let stays =
-      own_stays forgets_handed replies_handed forgets_own replies_own start (events_of journal text_party) end
-      (twenty_answers ticks clock_faults (ForgetsLent forgets_handed forgets_own) (RepliesLent replies_handed replies_own) told faults library bundle journal transcripts clock clock_then (Own start) end shelves shelves_then relay named over) in (
-        stays.0,
-        stays.1,
-        with_twenty ticks clock_faults (ForgetsLent forgets_handed forgets_own) (RepliesLent replies_handed replies_own) forgets_own replies_own told faults library bundle journal transcripts clock clock_then (Own start) end start stays.0
+        with_twenty ticks clock_faults (Forgets forgets_first forgets_second) (Replies replies_first replies_second) forgets_second replies_second told faults library bundle journal transcripts clock clock_then (Second start) end start stays.0
             shelves shelves_then relay named stays.2 over,
       )
