@@ -25,7 +25,7 @@ use Rattle.aplsv_top.proofs.Over.{FilesRun, faults_of, told_of}
 -- ---- behind 10
 
 -- the first of two, or this where it is the second
-first_or : {X Y : Type 0} → X → OneOf X Y → X
+abbrev first_or : {X Y : Type 0} → X → OneOf X Y → X
 first_or otherwise (First x) = x
 first_or otherwise (Second y) = otherwise
 

@@ -26,47 +26,47 @@ use Rattle.aplsv_top.proofs.Over.{clock_faults_of, faults_of, ticks_of, told_of}
 
 -- ---- a run in turns with something else behind 10, or behind 20, that gave the same replies
 
-module _ {X Z Y : Type 0} (forgets_ten : X → ℕ → X → Type 0) (replies_ten : X → ℕ → PlainArray → PlainArray → X → Type 0) (forgets_other : Z → ℕ → Z → Type 0) (replies_other : Z → ℕ → PlainArray → PlainArray → Z → Type 0)
-    (forgets_twenty : Y → ℕ → Y → Type 0) (replies_twenty : Y → ℕ → PlainArray → PlainArray → Y → Type 0) (users : List ℕ) (journal : Entries) (ten ten_then : X) (other other_then : Z) (twenty twenty_then : Y) where
+module _ {X Z Y : Type 0} (forgets_one : X → ℕ → X → Type 0) (replies_one : X → ℕ → PlainArray → PlainArray → X → Type 0) (forgets_other : Z → ℕ → Z → Type 0) (replies_other : Z → ℕ → PlainArray → PlainArray → Z → Type 0)
+    (forgets_beside : Y → ℕ → Y → Type 0) (replies_beside : Y → ℕ → PlainArray → PlainArray → Y → Type 0) (users : List ℕ) (journal : Entries) (one one_then : X) (other other_then : Z) (beside beside_then : Y) where
   parts_with_ten : IsReplierRun forgets_other replies_other other (events_of journal clock_party) other_then
-      → ((kind : AuxiliaryKind) → IsAuxiliaryPart (forgets_of forgets_ten forgets_twenty kind) (replies_of replies_ten replies_twenty kind) users (party_of kind) journal (of_each ten twenty kind) (of_each ten_then twenty_then kind))
-      → (kind : AuxiliaryKind) → IsAuxiliaryPart (forgets_of forgets_other forgets_twenty kind) (replies_of replies_other replies_twenty kind) users (party_of kind) journal (of_each other twenty kind) (of_each other_then twenty_then kind)
+      → ((kind : AuxiliaryKind) → IsAuxiliaryPart (forgets_of forgets_one forgets_beside kind) (replies_of replies_one replies_beside kind) users (party_of kind) journal (of_each one beside kind) (of_each one_then beside_then kind))
+      → (kind : AuxiliaryKind) → IsAuxiliaryPart (forgets_of forgets_other forgets_beside kind) (replies_of replies_other replies_beside kind) users (party_of kind) journal (of_each other beside kind) (of_each other_then beside_then kind)
   parts_with_ten answers parts Clock = record { answers = answers; among = (parts Clock).among }
   parts_with_ten answers parts TextFiles = parts TextFiles
 
   parts_with_twenty : IsReplierRun forgets_other replies_other other (events_of journal text_party) other_then
-      → ((kind : AuxiliaryKind) → IsAuxiliaryPart (forgets_of forgets_twenty forgets_ten kind) (replies_of replies_twenty replies_ten kind) users (party_of kind) journal (of_each twenty ten kind) (of_each twenty_then ten_then kind))
-      → (kind : AuxiliaryKind) → IsAuxiliaryPart (forgets_of forgets_twenty forgets_other kind) (replies_of replies_twenty replies_other kind) users (party_of kind) journal (of_each twenty other kind) (of_each twenty_then other_then kind)
+      → ((kind : AuxiliaryKind) → IsAuxiliaryPart (forgets_of forgets_beside forgets_one kind) (replies_of replies_beside replies_one kind) users (party_of kind) journal (of_each beside one kind) (of_each beside_then one_then kind))
+      → (kind : AuxiliaryKind) → IsAuxiliaryPart (forgets_of forgets_beside forgets_other kind) (replies_of replies_beside replies_other kind) users (party_of kind) journal (of_each beside other kind) (of_each beside_then other_then kind)
   parts_with_twenty answers parts Clock = parts Clock
   parts_with_twenty answers parts TextFiles = record { answers = answers; among = (parts TextFiles).among }
 
-module _ {X Z Y K : Type 0} (forgets_ten : X → ℕ → X → Type 0) (replies_ten : X → ℕ → PlainArray → PlainArray → X → Type 0) (forgets_other : Z → ℕ → Z → Type 0) (replies_other : Z → ℕ → PlainArray → PlainArray → Z → Type 0)
-    (forgets_twenty : Y → ℕ → Y → Type 0) (replies_twenty : Y → ℕ → PlainArray → PlainArray → Y → Type 0) (told : K → Option (Told (ℕ × List ℕ))) (faults : K → ℕ)
-    (bundle : PlainBundle) (journal : Entries) (transcripts : List PlainTranscript) (ten ten_then : X) (other other_then : Z) (twenty twenty_then : Y) (shelves shelves_then : List K) where
+module _ {X Z Y K : Type 0} (forgets_one : X → ℕ → X → Type 0) (replies_one : X → ℕ → PlainArray → PlainArray → X → Type 0) (forgets_other : Z → ℕ → Z → Type 0) (replies_other : Z → ℕ → PlainArray → PlainArray → Z → Type 0)
+    (forgets_beside : Y → ℕ → Y → Type 0) (replies_beside : Y → ℕ → PlainArray → PlainArray → Y → Type 0) (told : K → Option (Told (ℕ × List ℕ))) (faults : K → ℕ)
+    (bundle : PlainBundle) (journal : Entries) (transcripts : List PlainTranscript) (one one_then : X) (other other_then : Z) (beside beside_then : Y) (shelves shelves_then : List K) where
   turns_with_ten : IsReplierRun forgets_other replies_other other (events_of journal clock_party) other_then
-      → IsRunInTurns forgets_ten replies_ten forgets_twenty replies_twenty told faults bundle journal transcripts ten ten_then twenty twenty_then shelves shelves_then
-      → IsRunInTurns forgets_other replies_other forgets_twenty replies_twenty told faults bundle journal transcripts other other_then twenty twenty_then shelves shelves_then
+      → IsRunInTurns forgets_one replies_one forgets_beside replies_beside told faults bundle journal transcripts one one_then beside beside_then shelves shelves_then
+      → IsRunInTurns forgets_other replies_other forgets_beside replies_beside told faults bundle journal transcripts other other_then beside beside_then shelves shelves_then
   turns_with_ten answers over = record {
     dealings = over.dealings;
     run = record {
       legal = over.run.legal;
       users = over.run.users;
       shelves_served = over.run.shelves_served;
-      parts = parts_with_ten forgets_ten replies_ten forgets_other replies_other forgets_twenty replies_twenty (user_numbers bundle) journal ten ten_then other other_then twenty twenty_then answers over.run.parts;
+      parts = parts_with_ten forgets_one replies_one forgets_other replies_other forgets_beside replies_beside (user_numbers bundle) journal one one_then other other_then beside beside_then answers over.run.parts;
     };
     turns = over.turns;
   }
 
   turns_with_twenty : IsReplierRun forgets_other replies_other other (events_of journal text_party) other_then
-      → IsRunInTurns forgets_twenty replies_twenty forgets_ten replies_ten told faults bundle journal transcripts twenty twenty_then ten ten_then shelves shelves_then
-      → IsRunInTurns forgets_twenty replies_twenty forgets_other replies_other told faults bundle journal transcripts twenty twenty_then other other_then shelves shelves_then
+      → IsRunInTurns forgets_beside replies_beside forgets_one replies_one told faults bundle journal transcripts beside beside_then one one_then shelves shelves_then
+      → IsRunInTurns forgets_beside replies_beside forgets_other replies_other told faults bundle journal transcripts beside beside_then other other_then shelves shelves_then
   turns_with_twenty answers over = record {
     dealings = over.dealings;
     run = record {
       legal = over.run.legal;
       users = over.run.users;
       shelves_served = over.run.shelves_served;
-      parts = parts_with_twenty forgets_ten replies_ten forgets_other replies_other forgets_twenty replies_twenty (user_numbers bundle) journal ten ten_then other other_then twenty twenty_then answers over.run.parts;
+      parts = parts_with_twenty forgets_one replies_one forgets_other replies_other forgets_beside replies_beside (user_numbers bundle) journal one one_then other other_then beside beside_then answers over.run.parts;
     };
     turns = over.turns;
   }
@@ -86,33 +86,33 @@ module _ {X Y K : Type 0} (forgets_ten : X → ℕ → X → Type 0) (replies_te
   shelved_twenty (Some place) over = (over.2.run.parts TextFiles).answers
   shelved_twenty None over = (over.1.run.parts TextFiles).answers
 
-module _ {X Z Y K : Type 0} (forgets_ten : X → ℕ → X → Type 0) (replies_ten : X → ℕ → PlainArray → PlainArray → X → Type 0) (forgets_other : Z → ℕ → Z → Type 0) (replies_other : Z → ℕ → PlainArray → PlainArray → Z → Type 0)
-    (forgets_twenty : Y → ℕ → Y → Type 0) (replies_twenty : Y → ℕ → PlainArray → PlainArray → Y → Type 0) (told : K → Option (Told (ℕ × List ℕ))) (faults : K → ℕ)
-    (bundle : PlainBundle) (journal : Entries) (transcripts : List PlainTranscript) (ten ten_then : X) (other other_then : Z) (twenty twenty_then : Y) (shelves shelves_then : List K) where
+module _ {X Z Y K : Type 0} (forgets_one : X → ℕ → X → Type 0) (replies_one : X → ℕ → PlainArray → PlainArray → X → Type 0) (forgets_other : Z → ℕ → Z → Type 0) (replies_other : Z → ℕ → PlainArray → PlainArray → Z → Type 0)
+    (forgets_beside : Y → ℕ → Y → Type 0) (replies_beside : Y → ℕ → PlainArray → PlainArray → Y → Type 0) (told : K → Option (Told (ℕ × List ℕ))) (faults : K → ℕ)
+    (bundle : PlainBundle) (journal : Entries) (transcripts : List PlainTranscript) (one one_then : X) (other other_then : Z) (beside beside_then : Y) (shelves shelves_then : List K) where
   shelved_with_ten : (library : Option (List ℕ)) → IsReplierRun forgets_other replies_other other (events_of journal clock_party) other_then
-      → ShelvedRun forgets_ten replies_ten forgets_twenty replies_twenty told faults library bundle journal transcripts ten ten_then twenty twenty_then shelves shelves_then
-      → ShelvedRun forgets_other replies_other forgets_twenty replies_twenty told faults library bundle journal transcripts other other_then twenty twenty_then shelves shelves_then
+      → ShelvedRun forgets_one replies_one forgets_beside replies_beside told faults library bundle journal transcripts one one_then beside beside_then shelves shelves_then
+      → ShelvedRun forgets_other replies_other forgets_beside replies_beside told faults library bundle journal transcripts other other_then beside beside_then shelves shelves_then
   shelved_with_ten (Some place) answers over = (
     over.0,
     over.1,
-    turns_with_ten forgets_ten replies_ten forgets_other replies_other forgets_twenty replies_twenty told faults bundle journal transcripts ten ten_then other other_then twenty twenty_then over.0 shelves_then answers over.2,
+    turns_with_ten forgets_one replies_one forgets_other replies_other forgets_beside replies_beside told faults bundle journal transcripts one one_then other other_then beside beside_then over.0 shelves_then answers over.2,
   )
   shelved_with_ten None answers over = (
     over.0,
-    turns_with_ten forgets_ten replies_ten forgets_other replies_other forgets_twenty replies_twenty told_of faults_of bundle journal transcripts ten ten_then other other_then twenty twenty_then (shelves_of bundle) over.0 answers over.1,
+    turns_with_ten forgets_one replies_one forgets_other replies_other forgets_beside replies_beside told_of faults_of bundle journal transcripts one one_then other other_then beside beside_then (shelves_of bundle) over.0 answers over.1,
   )
 
   shelved_with_twenty : (library : Option (List ℕ)) → IsReplierRun forgets_other replies_other other (events_of journal text_party) other_then
-      → ShelvedRun forgets_twenty replies_twenty forgets_ten replies_ten told faults library bundle journal transcripts twenty twenty_then ten ten_then shelves shelves_then
-      → ShelvedRun forgets_twenty replies_twenty forgets_other replies_other told faults library bundle journal transcripts twenty twenty_then other other_then shelves shelves_then
+      → ShelvedRun forgets_beside replies_beside forgets_one replies_one told faults library bundle journal transcripts beside beside_then one one_then shelves shelves_then
+      → ShelvedRun forgets_beside replies_beside forgets_other replies_other told faults library bundle journal transcripts beside beside_then other other_then shelves shelves_then
   shelved_with_twenty (Some place) answers over = (
     over.0,
     over.1,
-    turns_with_twenty forgets_ten replies_ten forgets_other replies_other forgets_twenty replies_twenty told faults bundle journal transcripts ten ten_then other other_then twenty twenty_then over.0 shelves_then answers over.2,
+    turns_with_twenty forgets_one replies_one forgets_other replies_other forgets_beside replies_beside told faults bundle journal transcripts one one_then other other_then beside beside_then over.0 shelves_then answers over.2,
   )
   shelved_with_twenty None answers over = (
     over.0,
-    turns_with_twenty forgets_ten replies_ten forgets_other replies_other forgets_twenty replies_twenty told_of faults_of bundle journal transcripts ten ten_then other other_then twenty twenty_then (shelves_of bundle) over.0 answers over.1,
+    turns_with_twenty forgets_one replies_one forgets_other replies_other forgets_beside replies_beside told_of faults_of bundle journal transcripts one one_then other other_then beside beside_then (shelves_of bundle) over.0 answers over.1,
   )
 
 -- ---- and over what is named for 10
