@@ -1,3 +1,4 @@
+pub mod Behind
 pub mod Causes
 pub mod Clocks
 pub mod Copies
@@ -9,6 +10,7 @@ pub mod Level
 pub mod LoadCauses
 pub mod LoadRuns
 pub mod Older
+pub mod OneOfRuns
 pub mod OneOutput
 pub mod OneReplay
 pub mod OneReply

@@ -90,7 +90,7 @@ module _ {C T K : Type 0} (ticks : C → Option Ticks) (clock_faults : C → ℕ
       if_whole ended (λ transcripts journal. RunAs ticks clock_faults text_told text_faults told faults asked bundle journal transcripts clock clock_then files files_then shelves shelves_then)
       (λ transcripts journal. IsSome (last_line transcripts))
       (λ transcripts journal over.
-      let parts = named_parts ticks clock_faults text_told text_faults told faults asked.text asked.clock asked.library bundle journal transcripts clock clock_then files files_then shelves shelves_then over in
+      let parts = named_parts ticks clock_faults text_told text_faults told faults asked.text asked.components asked.relay asked.clock asked.library bundle journal transcripts clock clock_then files files_then shelves shelves_then over in
       let last = load_has_last parts.dealings journal n bundle transcripts fits made parts.users in
       ap is_some last.1)
       run

@@ -1,12 +1,15 @@
 //! The program, from the words of its command line to the bytes that it writes.
 #![tactic(auto)]
 
+mod behind_ten;
+mod behind_twenty;
 mod bytes;
 mod laws;
 mod loads;
 mod memory;
 mod one_thread;
 mod output;
+mod over_shelves;
 mod printed;
 mod run;
 mod status;
@@ -22,7 +25,7 @@ pub use one_thread::aplsv_on_one_thread;
 pub use printed::{
     outputs_are_printed, own_outputs_are_the_bundles, printed_accesses_follow_the_table,
     printed_journals_answer_full_past_their_limit, printed_transcripts_are_evaluated_alone,
-    printed_uses_give_the_last_value,
+    printed_uses_give_the_last_value, relayed_texts_arrive,
 };
 pub use status::{Finish, Status};
 pub use summaries::summary;

@@ -1,4 +1,4 @@
-ghost use Rattle.std.specs.Prelude.{◌≡◌, ◌≢◌, ◌≤◌, ◌⊎◌, ◌↔◌, ◌||◌, ℕ, None, Some, false, is_some, map, string_bytes, vec_len};
+ghost use Rattle.std.specs.Prelude.{◌≡◌, ◌≢◌, ◌≤◌, ◌⊎◌, ◌↔◌, ◌||◌, ℕ, None, Some, false, is_some, map, string_bytes, true, vec_len};
 ghost use Rattle.apl_arrays.specs.Limits.{most_input_bytes, most_users};
 ghost use Rattle.apl_io.specs.Faults.{Rose};
 ghost use Rattle.apl_io.specs.Whole.{AreAtMost};
@@ -57,6 +57,7 @@ pub fn aplsv_on_one_thread<S: Source, W: Sink, T: TextStore, C: Clock, K: Shelf>
     ensures unnamed { ¬ AskRun (map string_bytes words.now) → (result.text ≡ text) × (result.clock ≡ clock) × (result.shelves ≡ shelves) }
     ensures text { (asked : Asked) → Means (map string_bytes words.now) asked → asked.text ≡ None → result.text ≡ text }
     ensures clock { (asked : Asked) → Means (map string_bytes words.now) asked → asked.clock ≡ false → result.clock ≡ clock }
+    ensures relayed { (asked : Asked) → Means (map string_bytes words.now) asked → asked.relay ≡ true → result.clock ≡ clock }
     ensures library { (asked : Asked) → Means (map string_bytes words.now) asked → asked.library ≡ None → result.shelves ≡ shelves }
     ensures devices { result.status ≢ status.Done → result.status ≢ status.WriteFault → result.status ≢ status.WantOfMemory
         → (result.text ≡ text) × (result.clock ≡ clock) × (result.shelves ≡ shelves) }
@@ -94,6 +95,7 @@ fn by_words<S: Source, W: Sink, T: TextStore, C: Clock, K: Shelf>(
     ensures unnamed { ((asked_by words.now).replay || is_some (asked_by words.now).load) ≡ false → (result.text ≡ text) × (result.clock ≡ clock) × (result.shelves ≡ shelves) }
     ensures text { (asked_by words.now).text ≡ None → result.text ≡ text }
     ensures clock { (asked_by words.now).clock ≡ false → result.clock ≡ clock }
+    ensures relayed { (asked_by words.now).relay ≡ true → result.clock ≡ clock }
     ensures library { (asked_by words.now).library ≡ None → result.shelves ≡ shelves }
     ensures devices { result.status ≢ status.Done → result.status ≢ status.WriteFault → result.status ≢ status.WantOfMemory
         → (result.text ≡ text) × (result.clock ≡ clock) × (result.shelves ≡ shelves) }

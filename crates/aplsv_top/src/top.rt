@@ -1,4 +1,4 @@
-ghost use Rattle.std.specs.Prelude.{◌≡◌, ◌≢◌, ◌≤◌, ◌⊎◌, ◌↔◌, [], None, Some, false, length, map, string_bytes, vec_len};
+ghost use Rattle.std.specs.Prelude.{◌≡◌, ◌≢◌, ◌≤◌, ◌⊎◌, ◌↔◌, [], None, Some, false, length, map, string_bytes, true, vec_len};
 ghost use Rattle.apl_arrays.specs.Limits.{most_input_bytes, most_users};
 ghost use Rattle.apl_io.specs.Faults.{Rose};
 ghost use Rattle.apl_io.specs.Whole.{AreAtMost};
@@ -25,8 +25,9 @@ const INPUT_LIMIT: usize = 4_194_304;
 /// use is answered by the rules over the entries before it, and each transcript is its user's lines evaluated alone with
 /// the answers that the journal gives that user and the replies of its shelf. The text store, the clock and the 32 shelves
 /// are those handed in where `--text`, `--clock` and `--library` name them; else the files and the readings are the bundle's,
-/// and each user has an empty shelf. The k-th user has the k-th shelf. Words that have no meaning, or lack `--replay`, are
-/// `Usage`. It returns for every source and sink. What no word names is not called, and comes back as it came; the store and
+/// and each user has an empty shelf. The k-th user has the k-th shelf. With `--components` party 20 keeps files of arrays in that
+/// store; with `--relay` party 10 carries texts between users, and no clock is called. Words that have no meaning, or lack
+/// `--replay`, are `Usage`. It returns for every source and sink. What no word names is not called, and comes back as it came; the store and
 /// the shelves of the bundle's users are told the place that a word names once a bundle was read, and the shelves behind
 /// these are left. Nothing is written unless a bundle was run, where memory runs out too.
 pub fn aplsv_replay_words<S: Source, W: Sink, T: TextStore, C: Clock, K: Shelf>(
@@ -59,6 +60,7 @@ pub fn aplsv_replay_words<S: Source, W: Sink, T: TextStore, C: Clock, K: Shelf>(
     ensures unnamed { ¬ AskReplay (map string_bytes words.now) → (result.text ≡ text) × (result.clock ≡ clock) × (result.shelves ≡ shelves) }
     ensures text { (asked : Asked) → Means (map string_bytes words.now) asked → asked.text ≡ None → result.text ≡ text }
     ensures clock { (asked : Asked) → Means (map string_bytes words.now) asked → asked.clock ≡ false → result.clock ≡ clock }
+    ensures relayed { (asked : Asked) → Means (map string_bytes words.now) asked → asked.relay ≡ true → result.clock ≡ clock }
     ensures library { (asked : Asked) → Means (map string_bytes words.now) asked → asked.library ≡ None → result.shelves ≡ shelves }
     ensures devices { result.status ≢ status.Done → result.status ≢ status.WriteFault → result.status ≢ status.WantOfMemory
         → (result.text ≡ text) × (result.clock ≡ clock) × (result.shelves ≡ shelves) }
@@ -103,6 +105,7 @@ pub(crate) fn as_asked<S: Source, W: Sink, T: TextStore, C: Clock, K: Shelf>(
     ensures unnamed { (asked_by words.now).replay ≡ false → (result.text ≡ text) × (result.clock ≡ clock) × (result.shelves ≡ shelves) }
     ensures text { (asked_by words.now).text ≡ None → result.text ≡ text }
     ensures clock { (asked_by words.now).clock ≡ false → result.clock ≡ clock }
+    ensures relayed { (asked_by words.now).relay ≡ true → result.clock ≡ clock }
     ensures library { (asked_by words.now).library ≡ None → result.shelves ≡ shelves }
     ensures devices { result.status ≢ status.Done → result.status ≢ status.WriteFault → result.status ≢ status.WantOfMemory
         → (result.text ≡ text) × (result.clock ≡ clock) × (result.shelves ≡ shelves) }
@@ -131,6 +134,7 @@ fn run<S: Source, W: Sink, T: TextStore, C: Clock, K: Shelf>(
     ensures unwritten { result.status ≢ status.Done → result.status ≢ status.WriteFault → output.new ≡ output.old }
     ensures text { (asked_by words.now).text ≡ None → result.text ≡ text }
     ensures clock { (asked_by words.now).clock ≡ false → result.clock ≡ clock }
+    ensures relayed { (asked_by words.now).relay ≡ true → result.clock ≡ clock }
     ensures library { (asked_by words.now).library ≡ None → result.shelves ≡ shelves }
     ensures devices { result.status ≢ status.Done → result.status ≢ status.WriteFault → result.status ≢ status.WantOfMemory
         → (result.text ≡ text) × (result.clock ≡ clock) × (result.shelves ≡ shelves) }
@@ -162,6 +166,7 @@ fn answer<W: Sink, T: TextStore, C: Clock, K: Shelf>(
     ensures unwritten { result.status ≢ status.Done → result.status ≢ status.WriteFault → output.new ≡ output.old }
     ensures text { (asked_by words.now).text ≡ None → result.text ≡ text }
     ensures clock { (asked_by words.now).clock ≡ false → result.clock ≡ clock }
+    ensures relayed { (asked_by words.now).relay ≡ true → result.clock ≡ clock }
     ensures library { (asked_by words.now).library ≡ None → result.shelves ≡ shelves }
     ensures devices { result.status ≢ status.Done → result.status ≢ status.WriteFault → result.status ≢ status.WantOfMemory
         → (result.text ≡ text) × (result.clock ≡ clock) × (result.shelves ≡ shelves) }

@@ -74,8 +74,9 @@ no_count_counts text none (Some n) counts = none n counts
 
 -- ---- what is asked for
 
-abbrev asks_with : Bool → Option Text → Option Text → Bool → Option ℕ → Asked
-asks_with replay library text clock load = record { replay = replay; library = library; text = text; clock = clock; load = load }
+abbrev asks_with : Bool → Option Text → Option Text → Bool → Option ℕ → Bool → Bool → Asked
+asks_with replay library text clock load components relay =
+    record { replay = replay; library = library; text = text; clock = clock; load = load; components = components; relay = relay }
 
 -- what is said asks for one thing
 pub asked_once : (said : Said) (one other : Asked) → AsksFor said one → AsksFor said other → one ≡ other
@@ -85,7 +86,9 @@ asked_once said one other a b =
     let text : one.text ≡ other.text = a.text ∙ sym b.text in
     let clock : one.clock ≡ other.clock = a.clock ∙ sym b.clock in
     let load : one.load ≡ other.load = counted_once said.load one.load other.load a.load b.load in
-    λ i. asks_with (replay i) (library i) (text i) (clock i) (load i)
+    let components : one.components ≡ other.components = a.components ∙ sym b.components in
+    let relay : one.relay ≡ other.relay = a.relay ∙ sym b.relay in
+    λ i. asks_with (replay i) (library i) (text i) (clock i) (load i) (components i) (relay i)
 
 -- words have one meaning
 pub means_once : (words : List Text) (asked other : Asked) → Means words asked → Means words other → asked ≡ other

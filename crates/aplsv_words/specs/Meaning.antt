@@ -84,6 +84,8 @@ pub record Said : Type 0 where
   pub text : Option Text
   pub clock : Bool
   pub load : Option Text
+  pub components : Bool
+  pub relay : Bool
 
 -- what was read
 abbrev pub said_in : Written → Said
@@ -93,6 +95,8 @@ said_in written = record {
   text = option_map (λ place. place.now) written.text;
   clock = written.clock;
   load = option_map (λ count. count.now) written.load;
+  components = written.components;
+  relay = written.relay;
 }
 
 -- what settings say
@@ -103,6 +107,8 @@ said_by settings = record {
   text = value_written_for (codes "text") settings;
   clock = has_setting (codes "clock") settings;
   load = value_written_for (codes "load") settings;
+  components = has_setting (codes "components") settings;
+  relay = has_setting (codes "relay") settings;
 }
 
 -- the words say this: they are settings of the table, in any order and each once
@@ -119,6 +125,8 @@ pub record Asked : Type 0 where
   pub text : Option Text
   pub clock : Bool
   pub load : Option ℕ
+  pub components : Bool
+  pub relay : Bool
 
 -- what was understood
 abbrev pub asked_by : Words → Asked
@@ -128,6 +136,8 @@ asked_by words = record {
   text = option_map (λ place. place.now) words.text;
   clock = words.clock;
   load = words.load;
+  components = words.components;
+  relay = words.relay;
 }
 
 -- the text is this count: its decimal digits, from 1 to 100,000, so without a sign and without a zero at the front
@@ -158,6 +168,8 @@ pub record AsksFor (said : Said) (asked : Asked) : Type 0 where
   pub text : asked.text ≡ said.text
   pub clock : asked.clock ≡ said.clock
   pub load : CountsAs said.load asked.load
+  pub components : asked.components ≡ said.components
+  pub relay : asked.relay ≡ said.relay
   pub single : (asked.replay && is_some asked.load) ≡ false
 
 -- the words mean this: they say what asks for it

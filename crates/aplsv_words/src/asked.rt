@@ -41,6 +41,8 @@ fn words_by<'a>(written: Written<'a>) -> Result<Words<'a>, WordsRefused>
         text: written.text,
         clock: written.clock,
         load,
+        components: written.components,
+        relay: written.relay,
     })
 }
 

@@ -56,7 +56,9 @@ fn command_line<'a>(alloc: Global) -> Result<Command<'a>, AllocError>
     let with_library = with_replay.arg(valued(alloc, "library"))?;
     let with_text = with_library.arg(valued(alloc, "text"))?;
     let with_clock = with_text.arg(flag(alloc, "clock"))?;
-    let whole = with_clock.arg(valued(alloc, "load"))?;
+    let with_load = with_clock.arg(valued(alloc, "load"))?;
+    let with_components = with_load.arg(flag(alloc, "components"))?;
+    let whole = with_components.arg(flag(alloc, "relay"))?;
     Ok(whole)
 }
 
@@ -85,6 +87,8 @@ fn words_in<'a>(matches: ArgMatches<'a>) -> Written<'a>
     ensures text { option_map (λ place. place.now) result.text ≡ first_value (found_of matches.entry) (codes "text") }
     ensures clock { IsFlagOf (one_text (found_of matches.entry) (codes "clock")) result.clock }
     ensures load { option_map (λ count. count.now) result.load ≡ first_value (found_of matches.entry) (codes "load") }
+    ensures components { IsFlagOf (one_text (found_of matches.entry) (codes "components")) result.components }
+    ensures relay { IsFlagOf (one_text (found_of matches.entry) (codes "relay")) result.relay }
 {
     Written {
         replay: flag_in(&matches, "replay"),
@@ -92,6 +96,8 @@ fn words_in<'a>(matches: ArgMatches<'a>) -> Written<'a>
         text: matches.get_str("text"),
         clock: flag_in(&matches, "clock"),
         load: matches.get_str("load"),
+        components: flag_in(&matches, "components"),
+        relay: flag_in(&matches, "relay"),
     }
 }
 

@@ -8,7 +8,7 @@ pub fn words_have_one_meaning()
 {}
 
 /// Words at work: none; one; all, in another order and with values in both ways; a value that begins with a hyphen behind
-/// its `=`, and one that has another `=`; a load, of the most numbers too. And words that mean nothing: with a value that
+/// its `=`, and one that has another `=`; a load, of the most numbers too; component files and a relay, alone and beside all else. And words that mean nothing: with a value that
 /// begins with a hyphen, is empty, or is not there; with one that is not taken, or is no count; twice; a replay beside a
 /// load; short, cut, bare, or none of the table. The call does nothing.
 pub fn worked_words()
@@ -41,5 +41,10 @@ pub fn worked_words()
     ensures load_plus { MeanNothing (codes "--load=+5" ∷ []) }
     ensures load_minus { MeanNothing (codes "--load=-5" ∷ []) }
     ensures load_twice { MeanNothing (codes "--load=5" ∷ codes "--load=5" ∷ []) }
+    ensures components { Means (codes "--replay" ∷ codes "--components" ∷ []) (record replay_alone { components = true }) }
+    ensures relay { Means (codes "--relay" ∷ codes "--replay" ∷ []) (record replay_alone { relay = true }) }
+    ensures both_beside { Means (codes "--relay" ∷ codes "--load=5" ∷ codes "--components" ∷ codes "--text=A" ∷ []) (record nothing { text = Some (codes "A"); load = Some 5; components = true; relay = true }) }
+    ensures components_untaken { MeanNothing (codes "--components=A" ∷ []) }
+    ensures relay_twice { MeanNothing (codes "--relay" ∷ codes "--replay" ∷ codes "--relay" ∷ []) }
     ensures load_replayed { MeanNothing (codes "--load" ∷ codes "5" ∷ codes "--replay" ∷ []) }
 {}

@@ -15,6 +15,10 @@ pub struct Words<'a> {
     pub clock: bool,
     /// `--load N`: a bundle of so many numbers is made and run on one thread.
     pub load: Option<u32>,
+    /// `--components`: files of arrays are kept in the place of files of lines.
+    pub components: bool,
+    /// `--relay`: texts are carried between users in the place of readings of a clock.
+    pub relay: bool,
 }
 
 /// Why words are not read.

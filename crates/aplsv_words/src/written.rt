@@ -11,4 +11,8 @@ pub struct Written<'a> {
     pub clock: bool,
     /// `--load N`
     pub load: Option<&'a str>,
+    /// `--components` was written.
+    pub components: bool,
+    /// `--relay` was written.
+    pub relay: bool,
 }

@@ -7,6 +7,8 @@ The program reads a bundle from standard input and writes transcripts and the jo
   --library DIR  keeps saved workspaces as files DIR/USER/NAME, where a later run finds them
   --text DIR     reads and writes text files as DIR/NAME, and leaves the files of the bundle aside
   --clock        reads the clock of the machine, and leaves the readings of the bundle aside
+  --components   keeps files of arrays behind party 20, in the place of files of lines
+  --relay        carries texts between users behind party 10, in the place of telling the time
 Each stands once at most, in any order, and --load not beside --replay. N is from 1 to 100000, without a sign or a 0 in front.
 DIR is not empty. A value is the next word, and then begins with no -, or it follows =.
 "

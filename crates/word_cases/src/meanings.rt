@@ -40,6 +40,12 @@ fn shown(alloc: Global, words: Words) -> Result<String, AllocError> {
     if let Some(count) = words.load {
         write!(text, "load {count}; ")?;
     }
+    if words.components {
+        text.push_str("components; ")?;
+    }
+    if words.relay {
+        text.push_str("relay; ")?;
+    }
     text.push_str("no more")?;
     Ok(text)
 }

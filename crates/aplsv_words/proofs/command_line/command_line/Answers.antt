@@ -25,6 +25,12 @@ with_text = with_rule with_library (value_rule (codes "text"))
 abbrev with_clock : App
 with_clock = with_rule with_text (flag_rule (codes "clock"))
 
+abbrev with_load : App
+with_load = with_rule with_clock (value_rule (codes "load"))
+
+abbrev with_components : App
+with_components = with_rule with_load (flag_rule (codes "components"))
+
 pub returns : goal.returns
 returns c =
     let named : app_of c.no_binary_name.result ≡ without_a_name (app_of c.new.result) = ap app_of_fields c.no_binary_name.ensures in
@@ -34,4 +40,6 @@ returns c =
     let second : app_of c.in_ok-with_library.with_library ≡ with_library = c.in_ok-with_library.ensures.shape c.valued.ensures.local ∙ ap₂ with_rule first c.valued.ensures.rule in
     let third : app_of c.in_ok-with_text.with_text ≡ with_text = c.in_ok-with_text.ensures.shape c.valued-2.ensures.local ∙ ap₂ with_rule second c.valued-2.ensures.rule in
     let fourth : app_of c.in_ok-with_clock.with_clock ≡ with_clock = c.in_ok-with_clock.ensures.shape c.flag-2.ensures.local ∙ ap₂ with_rule third c.flag-2.ensures.rule in
-    c.in_ok-whole.ensures.shape c.valued-3.ensures.local ∙ ap₂ with_rule fourth c.valued-3.ensures.rule
+    let fifth : app_of c.in_ok-with_load.with_load ≡ with_load = c.in_ok-with_load.ensures.shape c.valued-3.ensures.local ∙ ap₂ with_rule fourth c.valued-3.ensures.rule in
+    let sixth : app_of c.in_ok-with_components.with_components ≡ with_components = c.in_ok-with_components.ensures.shape c.flag-3.ensures.local ∙ ap₂ with_rule fifth c.flag-3.ensures.rule in
+    c.in_ok-whole.ensures.shape c.flag-4.ensures.local ∙ ap₂ with_rule sixth c.flag-4.ensures.rule

@@ -16,9 +16,9 @@ use Rattle.aplsv_words.proofs.laws.worked_words.Goals as goal
 
 -- nothing but these four words is asked for
 four : (replay : Bool) (library text : Option Text) (clock : Bool)
-    → AsksFor (record { replay = replay; library = library; text = text; clock = clock; load = None }) (record { replay = replay; library = library; text = text; clock = clock; load = None })
-four true library text clock = record { replay = refl; library = refl; text = refl; clock = refl; load = tt; single = refl }
-four false library text clock = record { replay = refl; library = refl; text = refl; clock = refl; load = tt; single = refl }
+    → AsksFor (record { replay = replay; library = library; text = text; clock = clock; load = None; components = false; relay = false }) (record { replay = replay; library = library; text = text; clock = clock; load = None; components = false; relay = false })
+four true library text clock = record { replay = refl; library = refl; text = refl; clock = refl; load = tt; components = refl; relay = refl; single = refl }
+four false library text clock = record { replay = refl; library = refl; text = refl; clock = refl; load = tt; components = refl; relay = refl; single = refl }
 
 pub returns-clause-none : goal.returns-clause-none
 returns-clause-none c = means_by [] [] nothing refl (record { known = refl; once = tt }) (four false None None false)
@@ -72,13 +72,13 @@ most = record { digits = most_digits; some = omega arith; few = omega arith }
 pub returns-clause-load : goal.returns-clause-load
 returns-clause-load c =
     means_by (codes "--load" ∷ codes "5" ∷ []) (with_value (codes "load") (codes "5") ∷ []) (record nothing { load = Some 5 }) ([], inr (refl, refl), refl)
-    (record { known = refl; once = (refl, tt) }) (record { replay = refl; library = refl; text = refl; clock = refl; load = five; single = refl })
+    (record { known = refl; once = (refl, tt) }) (record { replay = refl; library = refl; text = refl; clock = refl; load = five; components = refl; relay = refl; single = refl })
 
 pub returns-clause-load_beside : goal.returns-clause-load_beside
 returns-clause-load_beside c =
     means_by (codes "--clock" ∷ codes "--load=100000" ∷ []) (alone (codes "clock") ∷ with_value (codes "load") (codes "100000") ∷ []) (record nothing { clock = true; load = Some 100000 })
     (codes "--load=100000" ∷ [], refl, ([], inl refl, refl)) (record { known = refl; once = (refl, (refl, tt)) })
-    (record { replay = refl; library = refl; text = refl; clock = refl; load = most; single = refl })
+    (record { replay = refl; library = refl; text = refl; clock = refl; load = most; components = refl; relay = refl; single = refl })
 
 -- loads of no count, in one word and in two
 
@@ -115,6 +115,27 @@ returns-clause-load_replayed c =
     (say_by (codes "--load" ∷ codes "5" ∷ codes "--replay" ∷ []) (with_value (codes "load") (codes "5") ∷ alone (codes "replay") ∷ []) (codes "--replay" ∷ [], inr (refl, refl), ([], refl, refl))
     (record { known = refl; once = (refl, (refl, tt)) }))
     refl refl
+
+-- other auxiliaries
+
+pub returns-clause-components : goal.returns-clause-components
+returns-clause-components c =
+    means_by (codes "--replay" ∷ codes "--components" ∷ []) (alone (codes "replay") ∷ alone (codes "components") ∷ []) (record replay_alone { components = true }) (codes "--components" ∷ [], refl, ([], refl, refl))
+    (record { known = refl; once = (refl, (refl, tt)) }) (record { replay = refl; library = refl; text = refl; clock = refl; load = tt; components = refl; relay = refl; single = refl })
+
+pub returns-clause-relay : goal.returns-clause-relay
+returns-clause-relay c =
+    means_by (codes "--relay" ∷ codes "--replay" ∷ []) (alone (codes "relay") ∷ alone (codes "replay") ∷ []) (record replay_alone { relay = true }) (codes "--replay" ∷ [], refl, ([], refl, refl))
+    (record { known = refl; once = (refl, (refl, tt)) }) (record { replay = refl; library = refl; text = refl; clock = refl; load = tt; components = refl; relay = refl; single = refl })
+
+pub returns-clause-both_beside : goal.returns-clause-both_beside
+returns-clause-both_beside c =
+    means_by (codes "--relay" ∷ codes "--load=5" ∷ codes "--components" ∷ codes "--text=A" ∷ [])
+    (alone (codes "relay") ∷ with_value (codes "load") (codes "5") ∷ alone (codes "components") ∷ with_value (codes "text") (codes "A") ∷ [])
+    (record nothing { text = Some (codes "A"); load = Some 5; components = true; relay = true })
+    (codes "--load=5" ∷ codes "--components" ∷ codes "--text=A" ∷ [], refl, (codes "--components" ∷ codes "--text=A" ∷ [], inl refl, (codes "--text=A" ∷ [], refl, ([], inl refl, refl))))
+    (record { known = refl; once = (refl, (refl, (refl, (refl, tt)))) })
+    (record { replay = refl; library = refl; text = refl; clock = refl; load = five; components = refl; relay = refl; single = refl })
 
 pub returns-clause-hyphen_apart : goal.returns-clause-hyphen_apart
 returns-clause-hyphen_apart c = a_stray_means_nothing (codes "--library" ∷ codes "-x" ∷ []) refl
@@ -168,6 +189,20 @@ fault_workers = refl
 fault_load_twice : fault_of (command_of table) (codes "--load=5" ∷ codes "--load=5" ∷ []) ≡ kind.ArgumentConflict ∷ []
 unfolding clap_on_literals
 fault_load_twice = refl
+
+fault_components_untaken : fault_of (command_of table) (codes "--components=A" ∷ []) ≡ kind.TooManyValues ∷ []
+unfolding clap_on_literals
+fault_components_untaken = refl
+
+fault_relay_twice : fault_of (command_of table) (codes "--relay" ∷ codes "--replay" ∷ codes "--relay" ∷ []) ≡ kind.ArgumentConflict ∷ []
+unfolding clap_on_literals
+fault_relay_twice = refl
+
+pub returns-clause-components_untaken : goal.returns-clause-components_untaken
+returns-clause-components_untaken c = faults_mean_nothing (codes "--components=A" ∷ []) kind.TooManyValues [] fault_components_untaken
+
+pub returns-clause-relay_twice : goal.returns-clause-relay_twice
+returns-clause-relay_twice c = faults_mean_nothing (codes "--relay" ∷ codes "--replay" ∷ codes "--relay" ∷ []) kind.ArgumentConflict [] fault_relay_twice
 
 pub returns-clause-name_apart : goal.returns-clause-name_apart
 returns-clause-name_apart c = faults_mean_nothing (codes "--text" ∷ codes "--clock" ∷ []) kind.InvalidValue [] fault_name_apart

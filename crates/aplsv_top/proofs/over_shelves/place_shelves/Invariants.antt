@@ -2,7 +2,7 @@ use Rattle.std.proofs.Common.{◌≡◌, drop, map, take, vec_len}
 use Rattle.std.specs.Prelude.{option_map}
 use Rattle.apl_io.specs.Content.{placed}
 use Rattle.aplsv_top.specs.Headline.{NoneFell}
-use Rattle.aplsv_top.proofs.run.place_shelves.Given as goal
+use Rattle.aplsv_top.proofs.over_shelves.place_shelves.Given as goal
 
 abbrev pub invariant-loop-at : goal.invariant-loop-at
 invariant-loop-at g l = record {

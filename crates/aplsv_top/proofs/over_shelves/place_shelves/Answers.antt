@@ -4,7 +4,7 @@ use Rattle.std.specs.Prelude.{option_map}
 use Rattle.apl_io.specs.Content.{placed}
 use Rattle.aplsv_top.proofs.Placing.{one_more_changed}
 use Rattle.aplsv_top.proofs.Placed.{none_fell_set, none_fell_yet}
-use Rattle.aplsv_top.proofs.run.place_shelves.Goals as goal
+use Rattle.aplsv_top.proofs.over_shelves.place_shelves.Goals as goal
 
 pub loop-at-init : goal.loop-at-init
 loop-at-init g c = record { tell = refl; counted = none_fell_yet g.K.Shelf.faults c.args.shelves.now.items; others = refl; many = refl }
