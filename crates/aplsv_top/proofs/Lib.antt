@@ -1,6 +1,7 @@
 pub mod Behind
 pub mod Causes
 pub mod Clocks
+pub mod ComponentAnswers
 pub mod Copies
 pub mod Determined
 pub mod Ended
@@ -16,9 +17,11 @@ pub mod OneReplay
 pub mod OneReply
 pub mod OneRun
 pub mod Over
+pub mod OwnOutputs
 pub mod Placed
 pub mod Placing
 pub mod Printing
+pub mod RelayAnswers
 pub mod ReplyWork
 pub mod Sessions
 pub mod Shelves

@@ -18,8 +18,8 @@ mod top;
 
 pub use bytes::replay_bytes;
 pub use laws::{
-    a_bundle_has_one_output, outputs_are_determined, printed_control_loses_nothing,
-    replays_are_determined,
+    a_bundle_has_one_output, outputs_are_determined, own_outputs_are_one,
+    printed_control_loses_nothing, replays_are_determined,
 };
 pub use one_thread::aplsv_on_one_thread;
 pub use printed::{
