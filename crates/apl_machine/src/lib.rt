@@ -6,7 +6,9 @@ mod flow;
 pub mod laws;
 mod machine;
 mod stepping;
+mod threads;
 
 pub use apl_acts::{LineRead, hear_alone, read_line};
 pub use flow::Stop;
 pub use machine::{Machine, STATEMENT_LIMIT};
+pub use threads::machines_may_cross_threads;

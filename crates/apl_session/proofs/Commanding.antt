@@ -17,7 +17,7 @@ use Rattle.sv_events.specs.declared.event.Act.{Act}
 use Rattle.sv_events.specs.declared.event.Act.TheVariants as act
 use Rattle.ws_commands.specs.Finish.{MayBeMade, MayComeIn, workspace_brought}
 use Rattle.ws_commands.specs.Reading.{step_of}
-use Rattle.ws_commands.specs.Shelf.{Takes}
+use Rattle.ws_commands.specs.Shelf.{TakesStep}
 use Rattle.ws_commands.specs.Todo.{PlainChange, PlainTodo, given_up, plain_change, plain_todo}
 use Rattle.ws_commands.specs.declared.todo.Change.TheVariants.{Keep}
 use Rattle.ws_commands.proofs.Changes.{first_is_shared, next_unmarked, next_with_copy}
@@ -253,7 +253,7 @@ lines_led lines answers exchanges read t errand none ph at =
 
 module _ {K : Type 0} (told : K → Option (Told (ℕ × List ℕ))) (faults : K → ℕ) where
   -- with the exchange that the command had with the shelf, if it had one, what is to be done is left
-  pub command_begun : (lines : List (List ℕ)) (answers : List PlainAnswer) (exchanges : List Exchange) (read : ℕ) (t : PlainTerminal) (line : List ℕ) (todo : PlainTodo) (user : ℕ) (old new : K) → Takes told faults user (step_of line t.workspace t.id) old todo new → IsAt lines answers exchanges read (command_done line) t
+  pub command_begun : (lines : List (List ℕ)) (answers : List PlainAnswer) (exchanges : List Exchange) (read : ℕ) (t : PlainTerminal) (line : List ℕ) (todo : PlainTodo) (user : ℕ) (old new : K) → TakesStep told faults user (step_of line t.workspace t.id) old todo new → IsAt lines answers exchanges read (command_done line) t
       → (more : List Exchange) × IsShelfRun told faults user old more new × IsAt lines answers (more ++ exchanges) read (todo_done line todo) t
   command_begun lines answers exchanges read t line todo user old new takes h =
       let k : IsStepped told faults user line (step_of line t.workspace t.id) todo old new = stepped told faults user line (step_of line t.workspace t.id) old todo new takes in (

@@ -10,10 +10,12 @@ mod progress;
 mod receipts;
 mod session;
 mod spare;
+mod threads;
 mod transcripts;
 mod under_way;
 
 pub use outcome::{Ended, FinishedRun, RunOf};
 pub use receipts::{Receipt, Receipts};
 pub use session::{Session, SessionParts, SessionStage, Wants};
+pub use threads::sessions_may_cross_threads;
 pub use transcripts::{Transcript, Transcripts};

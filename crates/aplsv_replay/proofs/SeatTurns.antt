@@ -16,7 +16,7 @@ use Rattle.replay_rules.specs.Turns.{AfterTurn, turn}
 use Rattle.aplsv_replay.specs.Participants.{participant_of, participant_with}
 use Rattle.aplsv_replay.specs.SeatTurns.{AreSeatTurns, IsHeld, IsSeatTurn, seat_numbers}
 use Rattle.aplsv_replay.specs.Sittings.{Sitting, seats_in}
-use Rattle.aplsv_replay.specs.SoFar.{GoesOn, GrowsBy, HasTurned, IsSameUser, IsSeated, IsWhole, IsWholeUnlessLost, TakesTurn, user_of, user_work, work_with}
+use Rattle.aplsv_replay.specs.SoFar.{GoesOn, GrowsBy, HasTurned, IsSameUser, IsSeated, SittingIsWhole, IsWholeUnlessLost, TakesTurn, user_of, user_work, work_with}
 use Rattle.aplsv_replay.specs.declared.seat.UserSeat.{UserSeat}
 use Rattle.aplsv_replay.proofs.Growth.{AreOthers, has_left_stays, own_are_others, part_stays, so_far_stays}
 use Rattle.aplsv_replay.proofs.Leaving.{gone_turn, left_seated}
@@ -79,7 +79,7 @@ module _ {K : Type 0} (told : K → Option (Told (ℕ × List ℕ))) (faults : K
         grows = grows;
         seated = left_seated told faults after.journal seat.session still same (ap (λ (c : PlainCore). has_left c.journal seat.session.user) core ∙ left);
         lost = lost;
-        whole = λ unclosed here is. subst₂ (λ (c : PlainCore) (s : UserSeat K). IsWhole told faults c.journal (record { seat = s; lent = lent; exchanges = exchanges })) (sym core) (sym seats) is;
+        whole = λ unclosed here is. subst₂ (λ (c : PlainCore) (s : UserSeat K). SittingIsWhole told faults c.journal (record { seat = s; lent = lent; exchanges = exchanges })) (sym core) (sym seats) is;
         turn = λ unclosed here final ends.
             subst₂ (λ (c : PlainCore) (s : UserSeat K). turn before.users before.journal (participant_of final seat.session) ≡ (let t : AfterTurn = record { journal = c.journal; user = participant_of final s.session } in t)) (sym core) (sym seats)
             (gone_turn (shelf_replies_in (final seat.session.user)) before seat.session left);
@@ -142,9 +142,9 @@ module _ {K : Type 0} (told : K → Option (Told (ℕ × List ℕ))) (faults : K
       let here = h (sym (has_left_stays entries journal sitting.seat.session.user others) ∙ stays) in
       record { here = here.here; come = here.come; so_far = λ more. so_far_stays entries journal (participant_with (shelf_replies_in sitting.exchanges ++ more) sitting.seat.session) _ others (here.so_far more) })
 
-  pub grown_whole : (entries journal after : Entries) (sitting : Sitting K) → after ≡ entries ++ journal → AreOthers sitting.seat.session.user entries → IsWhole told faults journal sitting → IsWhole told faults after sitting
+  pub grown_whole : (entries journal after : Entries) (sitting : Sitting K) → after ≡ entries ++ journal → AreOthers sitting.seat.session.user entries → SittingIsWhole told faults journal sitting → SittingIsWhole told faults after sitting
   grown_whole entries journal after sitting is others h =
-      subst (λ (j : Entries). IsWhole told faults j sitting) (sym is)
+      subst (λ (j : Entries). SittingIsWhole told faults j sitting) (sym is)
       (λ left. let part = h (sym (has_left_stays entries journal sitting.seat.session.user others) ∙ left) in
       record { finished = part.finished; come = part.come; part = part_stays entries journal (user_of sitting.seat.session) sitting.exchanges _ others part.part })
 

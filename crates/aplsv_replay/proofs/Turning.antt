@@ -25,7 +25,7 @@ use Rattle.apl_session.specs.declared.session.Wants.TheVariants as wants
 use Rattle.aplsv_replay.specs.Participants.{participant_of, participant_with}
 use Rattle.aplsv_replay.specs.SeatTurns.{IsOneSeated}
 use Rattle.aplsv_replay.specs.Sittings.{EndsIn, ExchangesFollow, Sitting}
-use Rattle.aplsv_replay.specs.SoFar.{AsksNow, HasHeard, HasPart, HasTurned, IsPresent, IsSameUser, IsSeated, IsSessionSoFar, IsTurn, IsUserSoFar, IsWhole, TakesTurn, TriesAgain, is_waiting, echoed_and_printed, user_of}
+use Rattle.aplsv_replay.specs.SoFar.{AsksNow, HasHeard, HasPart, HasTurned, SittingIsPresent, IsSameUser, IsSeated, IsSessionSoFar, IsTurn, IsUserSoFar, SittingIsWhole, TakesTurn, TriesAgain, is_waiting, echoed_and_printed, user_of}
 use Rattle.aplsv_replay.specs.declared.seat.UserSeat.{UserSeat}
 use Rattle.aplsv_replay.proofs.Hearing.{IsTurnAt, waiting_asks, waiting_waits}
 use Rattle.aplsv_replay.proofs.Leaving.{has_left_now, leaving_turn}
@@ -126,12 +126,12 @@ module _ {K : Type 0} (told : K → Option (Told (ℕ × List ℕ))) (faults : K
 
 module _ {K : Type 0} (told : K → Option (Told (ℕ × List ℕ))) (faults : K → ℕ) (before after : PlainCore) (seat seat_then : UserSeat K) (stays : has_left before.journal seat.session.user ≡ false) (lost : seat_then.is_lost ≡ seat.is_lost) (same : IsSameUser seat.session seat_then.session) where
   -- a turn from where a seat is, wherever it sat
-  from_seat : ((lent : K) (exchanges : List Exchange) → (let s : Sitting K = record { seat = seat; lent = lent; exchanges = exchanges } in IsPresent told faults before.journal s → (now : Sitting K) × (now.seat ≡ seat_then) × HasTurned told faults before s after now))
+  from_seat : ((lent : K) (exchanges : List Exchange) → (let s : Sitting K = record { seat = seat; lent = lent; exchanges = exchanges } in SittingIsPresent told faults before.journal s → (now : Sitting K) × (now.seat ≡ seat_then) × HasTurned told faults before s after now))
       → TakesTurn told faults before seat after seat_then
   from_seat turned sitting here present =
       let there = sits_as sitting seat here in
       subst (λ (s : Sitting K). (now : Sitting K) × (now.seat ≡ seat_then) × HasTurned told faults before s after now) there
-      (turned sitting.lent sitting.exchanges (subst (λ (s : Sitting K). IsPresent told faults before.journal s) (sym there) present))
+      (turned sitting.lent sitting.exchanges (subst (λ (s : Sitting K). SittingIsPresent told faults before.journal s) (sym there) present))
 
   -- an act was tried again
   pub turned_again : seat.session.stage ≡ stage.Waiting → has_left after.journal seat.session.user ≡ false

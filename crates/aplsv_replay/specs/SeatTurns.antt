@@ -10,7 +10,7 @@ use Rattle.session_rules.specs.Run.{Dealings}
 use Rattle.replay_rules.specs.Turns.{turn, turns_where}
 use Rattle.aplsv_replay.specs.Participants.{participant_of, users_of}
 use Rattle.aplsv_replay.specs.Sittings.{EndsIn, Sitting, lent_to, seats_in}
-use Rattle.aplsv_replay.specs.SoFar.{GrowsBy, IsSameSitting, IsSeated, IsWhole, IsWholeUnlessLost, user_of, user_work, work_with}
+use Rattle.aplsv_replay.specs.SoFar.{GrowsBy, IsSameSitting, IsSeated, SittingIsWhole, IsWholeUnlessLost, user_of, user_work, work_with}
 use Rattle.aplsv_replay.specs.declared.seat.UserSeat.{UserSeat}
 
 -- it is the turn of a user: of each, or of the one with this number
@@ -62,7 +62,7 @@ module _ {K : Type 0} (told : K → Option (Told (ℕ × List ℕ))) (faults : K
     pub grows : GrowsBy sitting.seat.session.user before after
     pub seated : IsSeated told faults after.journal now
     pub lost : sitting.seat.is_lost ≡ true → seat.is_lost ≡ true
-    pub whole : closes ≡ false → seat.is_lost ≡ false → IsWhole told faults before.journal sitting → IsWhole told faults after.journal now
+    pub whole : closes ≡ false → seat.is_lost ≡ false → SittingIsWhole told faults before.journal sitting → SittingIsWhole told faults after.journal now
     pub turn : closes ≡ false → seat.is_lost ≡ false → (final : Dealings) → EndsIn final now →
         (if due then turn before.users before.journal (participant_of final sitting.seat.session) else record { journal = before.journal; user = participant_of final sitting.seat.session })
         ≡ record { journal = after.journal; user = participant_of final seat.session }

@@ -70,14 +70,14 @@ echoed_and_printed exchanges s = (session_of s.lines s.answers (shelf_replies_in
 
 module _ {K : Type 0} (told : K → Option (Told (ℕ × List ℕ))) (faults : K → ℕ) where
   -- a user in a run that has not left: memory did not run out for it, its session has had these exchanges with its shelf, and it is so far
-  pub record IsPresent (journal : Entries) (sitting : Sitting K) : Type 0 where
+  pub record SittingIsPresent (journal : Entries) (sitting : Sitting K) : Type 0 where
     pub here : sitting.seat.is_lost ≡ false
     pub come : HasCome told faults sitting.lent sitting.exchanges sitting.seat.session
     pub so_far : IsSessionSoFar journal sitting.exchanges sitting.seat.session
 
   -- a user in a run: while it has not left, it is so far
   abbrev pub IsSeated : Entries → Sitting K → Type 0
-  IsSeated journal sitting = has_left journal sitting.seat.session.user ≡ false → IsPresent journal sitting
+  IsSeated journal sitting = has_left journal sitting.seat.session.user ≡ false → SittingIsPresent journal sitting
 
   -- once it has left, it has its part
   pub record HasPart (journal : Entries) (sitting : Sitting K) : Type 0 where
@@ -85,12 +85,12 @@ module _ {K : Type 0} (told : K → Option (Told (ℕ × List ℕ))) (faults : K
     pub come : HasCome told faults sitting.lent sitting.exchanges sitting.seat.session
     pub part : IsUserPart journal (user_of sitting.seat.session) sitting.exchanges (echoed_and_printed sitting.exchanges sitting.seat.session)
 
-  abbrev pub IsWhole : Entries → Sitting K → Type 0
-  IsWhole journal sitting = has_left journal sitting.seat.session.user ≡ true → HasPart journal sitting
+  abbrev pub SittingIsWhole : Entries → Sitting K → Type 0
+  SittingIsWhole journal sitting = has_left journal sitting.seat.session.user ≡ true → HasPart journal sitting
 
   -- memory did not run out for a user, and once it has left, it has its part
   abbrev pub IsWholeUnlessLost : Entries → Sitting K → Type 0
-  IsWholeUnlessLost journal sitting = sitting.seat.is_lost ≡ false → IsWhole journal sitting
+  IsWholeUnlessLost journal sitting = sitting.seat.is_lost ≡ false → SittingIsWhole journal sitting
 
 -- the same user, with its lines
 abbrev pub IsSameUser : {K : Type 0} → PlainSession K → PlainSession K → Type 0
@@ -139,13 +139,13 @@ module _ {K : Type 0} (told : K → Option (Told (ℕ × List ℕ))) (faults : K
   pub record HasTurned (before : PlainCore) (sitting : Sitting K) (after : PlainCore) (now : Sitting K) : Type 0 where
     pub same : IsSameSitting sitting now
     pub seated : IsSeated told faults after.journal now
-    pub whole : IsWhole told faults after.journal now
+    pub whole : SittingIsWhole told faults after.journal now
     pub turn : IsTurn before sitting.seat.session after now
 
   -- so from wherever it sat
   abbrev pub TakesTurn : PlainCore → UserSeat K → PlainCore → UserSeat K → Type 0
   TakesTurn before seat after seat_then =
-      (sitting : Sitting K) → sitting.seat ≡ seat → IsPresent told faults before.journal sitting → (now : Sitting K) × (now.seat ≡ seat_then) × HasTurned before sitting after now
+      (sitting : Sitting K) → sitting.seat ≡ seat → SittingIsPresent told faults before.journal sitting → (now : Sitting K) × (now.seat ≡ seat_then) × HasTurned before sitting after now
 
 -- what answers behind an auxiliary came from one state to another by its entries
 abbrev pub HasAnswered : {X : Type 0} → (X → ℕ → X → Type 0) → (X → ℕ → PlainArray → PlainArray → X → Type 0) → X → Entries → Auxiliary X → Type 0

@@ -7,7 +7,7 @@ use Rattle.apl_io.specs.Content.{IsChange, IsRead, MayRead, Reads, Told, Writes,
 use Rattle.apl_io.specs.declared.store_error.StoreError.{StoreError}
 use Rattle.apl_io.specs.declared.store_error.StoreError.TheVariants.{Failed, WantOfMemory}
 use Rattle.aux_components.specs.File.{AreComponents, component_asked, components_changed}
-use Rattle.aux_components.specs.Filed.{Filed, IsDone, IsReplaced, Replies, Takes, forgotten}
+use Rattle.aux_components.specs.Filed.{Filed, IsDone, IsReplaced, Replies, TakesStep, forgotten}
 use Rattle.aux_components.specs.Protocol.{AfterAsked, AfterWritten, DueChange, FileState, Finds, IsDue, Step, answers, asks, changes, due_of, idle, protocol_step, refuses, writes}
 use Rattle.aplsv_top.proofs.Determined.{IsDetermined}
 use Rattle.aplsv_top.proofs.Sound.{IsSound, called_sound, changed_sound, none_fails}
@@ -120,7 +120,7 @@ module _ (one_list : OneList) where
 
     -- ---- a step
 
-    taken_alike : (s : Step) (a b : Filed T) (answer other : PlainArray) (c d : Filed T) → FiledAlike a b → Takes told faults s a answer c → Takes told faults s b other d → (answer ≡ other) × FiledAlike c d
+    taken_alike : (s : Step) (a b : Filed T) (answer other : PlainArray) (c d : Filed T) → FiledAlike a b → TakesStep told faults s a answer c → TakesStep told faults s b other d → (answer ≡ other) × FiledAlike c d
     taken_alike (answers value state) a b answer other c d h takes took = (
       takes.0 ∙ sym took.0,
       record {
@@ -170,5 +170,5 @@ module _ (one_list : OneList) where
       };
       replied = λ a b party value answer other c d h step also.
           taken_alike (protocol_step value a.state) a b answer other c d h step
-          (subst (λ (state : FileState). Takes told faults (protocol_step value state) b other d) (sym h.state) also);
+          (subst (λ (state : FileState). TakesStep told faults (protocol_step value state) b other d) (sym h.state) also);
     }

@@ -2,9 +2,13 @@
 use Rattle.std.proofs.Common.{◌≡◌, ℕ, List, [], ◌∷◌, ◌++◌, sym, subst₂}
 use Rattle.std.specs.Prelude.{◌==◌, option_to_list, if◌then◌else◌}
 use Rattle.apl_arrays.specs.Array.{PlainArray}
-use Rattle.auxiliaries.specs.Run.{Event, began, answered, Leads, IsReplierRun}
+use Rattle.aux_parties.specs.Auxiliaries.{party_of}
+use Rattle.aux_parties.specs.declared.auxiliary.AuxiliaryKind.{AuxiliaryKind}
+use Rattle.aux_parties.specs.declared.auxiliary.AuxiliaryKind.TheVariants.{Clock, TextFiles}
+use Rattle.auxiliaries.specs.Run.{Event, began, answered, EventLeads, IsReplierRun}
 use Rattle.sv_rules.specs.Entries.{Entries}
 use Rattle.session_rules.specs.Auxiliaries.{event_of, events_of}
+use Rattle.session_rules.specs.Behind.{Behind, forgets_of, replies_of}
 
 -- those that begin so are alike, and from states that are alike a replier comes to states that are alike, with one answer
 pub record IsDetermined {S : Type 0} (forgets : S → ℕ → S → Type 0) (replies : S → ℕ → PlainArray → PlainArray → S → Type 0) (Begins : S → Type 0) (Alike : S → S → Type 0) : Type 0 where
@@ -30,7 +34,7 @@ module _ {S : Type 0} (forgets : S → ℕ → S → Type 0) (replies : S → �
       (start, begins, before_more (if e.party == party then option_to_list (event_of (more ++ journal) e) else []) (events_of (more ++ journal) party) start end run)
 
   module _ (Alike : S → S → Type 0) (one : IsDetermined forgets replies Begins Alike) where
-    leads_alike : (event : Event) (a b c d : S) → Alike a b → Leads forgets replies event a c → Leads forgets replies event b d → Alike c d
+    leads_alike : (event : Event) (a b c d : S) → Alike a b → EventLeads forgets replies event a c → EventLeads forgets replies event b d → Alike c d
     leads_alike (began party) a b c d alike lead other = one.forgotten a b party c d alike lead other
     leads_alike (answered party value answer) a b c d alike lead other = (one.replied a b party value answer answer c d alike lead other).1
 
@@ -45,3 +49,21 @@ module _ {S : Type 0} (forgets : S → ℕ → S → Type 0) (replies : S → �
         → IsReplierRun forgets replies b (answered party value other ∷ events) d → answer ≡ other
     one_answer events party value answer other a b c d begins also (between, run, lead) (middle, ran, led) =
         (one.replied between middle party value answer other c d (runs_alike events a b between middle (one.begun a b begins also) run ran) lead led).0
+
+-- ---- what answers behind each auxiliary
+
+-- the states at which it may begin
+abbrev pub begins_of : {X Y : Type 0} → (X → Type 0) → (Y → Type 0) → (kind : AuxiliaryKind) → Behind X Y kind → Type 0
+begins_of ten twenty Clock = ten
+begins_of ten twenty TextFiles = twenty
+
+-- and those that are alike
+abbrev pub alike_of : {X Y : Type 0} → (X → X → Type 0) → (Y → Y → Type 0) → (kind : AuxiliaryKind) → Behind X Y kind → Behind X Y kind → Type 0
+alike_of ten twenty Clock = ten
+alike_of ten twenty TextFiles = twenty
+
+module _ {X Y : Type 0} (forgets_ten : X → ℕ → X → Type 0) (replies_ten : X → ℕ → PlainArray → PlainArray → X → Type 0) (BeginsTen : X → Type 0)
+    (forgets_twenty : Y → ℕ → Y → Type 0) (replies_twenty : Y → ℕ → PlainArray → PlainArray → Y → Type 0) (BeginsTwenty : Y → Type 0) where
+  -- it has a run over a journal, from a state at which it may begin
+  abbrev pub AnswersBehind : AuxiliaryKind → Entries → Type 0
+  AnswersBehind kind journal = Answers (forgets_of forgets_ten forgets_twenty kind) (replies_of replies_ten replies_twenty kind) (begins_of BeginsTen BeginsTwenty kind) (party_of kind) journal

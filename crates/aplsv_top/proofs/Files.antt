@@ -10,7 +10,7 @@ use Rattle.auxiliaries.specs.Request.{request_of}
 use Rattle.auxiliaries.specs.File.{IsText}
 use Rattle.auxiliaries.specs.Protocol.{AfterRead, AfterReplace, Step, TextState, answers, idle, reading, reads, replaces, protocol_step}
 use Rattle.auxiliaries.specs.Run.{Event, IsReplierRun, answered, began}
-use Rattle.auxiliaries.specs.Served.{Replies, Served, Takes, forgotten}
+use Rattle.auxiliaries.specs.Served.{Replies, Served, TakesStep, forgotten}
 use Rattle.aplsv_top.specs.OutputLaws.{HoldsThroughout, TellsAll}
 use Rattle.aplsv_top.proofs.Determined.{IsDetermined}
 use Rattle.aplsv_top.proofs.Told.{EndAlike, TellAlike, alike_itself, called_alike, changed_alike, one_fails, one_read, other_fails, some_and}
@@ -90,7 +90,7 @@ module _ (one_text : OneText) where
 
     -- ---- a step
 
-    taken_alike : (s : Step) (a b : Served T) (answer other : PlainArray) (c d : Served T) → ServeAlike a b → IsKnown a → Takes told faults s a answer c → Takes told faults s b other d → (answer ≡ other) × ServeAlike c d
+    taken_alike : (s : Step) (a b : Served T) (answer other : PlainArray) (c d : Served T) → ServeAlike a b → IsKnown a → TakesStep told faults s a answer c → TakesStep told faults s b other d → (answer ≡ other) × ServeAlike c d
     taken_alike (answers value state) a b answer other c d h known takes took = (
       takes.0 ∙ sym took.0,
       record {
@@ -137,7 +137,7 @@ module _ (one_text : OneText) where
       };
       replied = λ a b party value answer other c d h one another.
           taken_alike (protocol_step (request_of value) a.state) a b answer other c d h one.0 one.1
-          (subst (λ (state : TextState). Takes told faults (protocol_step (request_of value) state) b other d) (sym h.state) another.1);
+          (subst (λ (state : TextState). TakesStep told faults (protocol_step (request_of value) state) b other d) (sym h.state) another.1);
     }
 
     -- ---- runs

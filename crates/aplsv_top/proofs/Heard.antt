@@ -5,6 +5,8 @@ use Rattle.std.specs.Prelude.{IfSome, not, option_map, if◌then◌else◌}
 use Rattle.std.specs.List.{AllByRecursion}
 use Rattle.std.specs.Option.{option_map_or}
 use Rattle.apl_arrays.specs.Ascending.{Ascend}
+use Rattle.aux_parties.specs.Auxiliaries.{party_of}
+use Rattle.aux_parties.specs.declared.auxiliary.AuxiliaryKind.{AuxiliaryKind}
 use Rattle.sv_events.specs.Answer.{PlainAnswer, full}
 use Rattle.sv_events.specs.Entry.{PlainEntry}
 use Rattle.sv_events.specs.declared.event.Act.{Act}
@@ -157,6 +159,10 @@ AreApartFrom number numbers = AllByRecursion (λ (other : ℕ). other ≢ number
 abbrev pub AreApart : List ℕ → Type 0
 AreApart [] = Unit {0}
 AreApart (number ∷ numbers) = AreApartFrom number numbers × AreApart numbers
+
+-- users are apart from the auxiliaries, and from each other
+abbrev pub AreUsersApart : List ℕ → Type 0
+AreUsersApart numbers = ((kind : AuxiliaryKind) → AreApartFrom (party_of kind) numbers) × AreApart numbers
 
 farther : (number next : ℕ) (numbers : List ℕ) → number < next → AllByRecursion (λ (other : ℕ). next < other) numbers → AllByRecursion (λ (other : ℕ). number < other) numbers
 farther number next [] less all = tt

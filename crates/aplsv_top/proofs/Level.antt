@@ -5,7 +5,6 @@ use Rattle.std.specs.Prelude.{◌==◌, if◌then◌else◌}
 use Rattle.std.proofs.lemmas.Bool.{eqb-true}
 use Rattle.std.specs.Option.{option_map_or}
 use Rattle.apl_arrays.specs.Array.{PlainArray}
-use Rattle.aux_parties.specs.Auxiliaries.{clock_party, text_party}
 use Rattle.sv_events.specs.Answer.{PlainAnswer}
 use Rattle.sv_events.specs.declared.event.Act.{Act}
 use Rattle.sv_rules.specs.Entries.{Entries, has_left, is_held, kind_of}
@@ -18,12 +17,13 @@ use Rattle.aux_parties.specs.declared.auxiliary.AuxiliaryKind.TheVariants.{Clock
 use Rattle.aux_parties.specs.declared.auxiliary.AuxiliaryRow.{AuxiliaryRow}
 use Rattle.aux_parties.proofs.TableLemmas.{kind_of_party, of_rows}
 use Rattle.session_rules.specs.Auxiliaries.{some_stay}
+use Rattle.session_rules.specs.Behind.{forgets_of, replies_of}
 use Rattle.session_rules.specs.Course.{Course}
 use Rattle.session_rules.specs.Session.{session_of}
 use Rattle.session_rules.specs.Shelf.{Call, Exchange, ShelfReply}
 use Rattle.replay_rules.specs.Turns.{HasReplies, Participant, Replay, AfterTurn, act_made, auxiliary_turn, auxiliary_turns, answer_given, some_user_stays, numbers_of, ordered, party_turn, round, rounds, served, turn, turn_by, turns_where, user_turns}
-use Rattle.aplsv_top.proofs.Determined.{Answers, IsDetermined, older_answers}
-use Rattle.aplsv_top.proofs.Heard.{AreApart, AreApartFrom, AreHeard, all_heard_beside, heard_turns}
+use Rattle.aplsv_top.proofs.Determined.{AnswersBehind, IsDetermined, alike_of, begins_of, older_answers}
+use Rattle.aplsv_top.proofs.Heard.{AreHeard, AreUsersApart, all_heard_beside, heard_turns}
 use Rattle.aplsv_top.proofs.Older.{AreLater, IsLater, IsOlder, adds_served, all_later_still, later_turn, later_turns, left_before, none_later, older_by, older_turns, same_numbers, turn_if}
 use Rattle.aplsv_top.proofs.OneReply.{same_served}
 use Rattle.aplsv_top.proofs.Sessions.{AreLevel, more_calls, same_session}
@@ -163,30 +163,24 @@ module _ {P : Type 0} (Fits : P → ℕ → List Exchange → Type 0) (older : (
       (places : List P) where
     -- what answers behind both auxiliaries has a run over a replay's journal, both have replies left, and the exchanges of its users fit
     pub record IsRepliedTo (a : Replay) : Type 0 where
-      pub ten_answers : Answers forgets_ten replies_ten BeginsTen clock_party a.journal
-      pub twenty_answers : Answers forgets_twenty replies_twenty BeginsTwenty text_party a.journal
+      pub answers : (kind : AuxiliaryKind) → AnswersBehind forgets_ten replies_ten BeginsTen forgets_twenty replies_twenty BeginsTwenty kind a.journal
       pub left : HasReplies a
       pub fits : AreFitting places a.users
 
     -- so it was before
     replied_before : (a b : Replay) → IsOlder a.journal b.journal → ((kind : AuxiliaryKind) → b.replies (party_of kind) ≢ [] → a.replies (party_of kind) ≢ []) → AreLater a.users b.users → IsRepliedTo b → IsRepliedTo a
     replied_before a b older left later h = record {
-      ten_answers = older_answers forgets_ten replies_ten BeginsTen clock_party older.more a.journal (subst (Answers forgets_ten replies_ten BeginsTen clock_party) older.same h.ten_answers);
-      twenty_answers = older_answers forgets_twenty replies_twenty BeginsTwenty text_party older.more a.journal (subst (Answers forgets_twenty replies_twenty BeginsTwenty text_party) older.same h.twenty_answers);
+      answers = λ kind. older_answers (forgets_of forgets_ten forgets_twenty kind) (replies_of replies_ten replies_twenty kind) (begins_of BeginsTen BeginsTwenty kind) (party_of kind) older.more a.journal (subst (AnswersBehind forgets_ten replies_ten BeginsTen forgets_twenty replies_twenty BeginsTwenty kind) older.same (h.answers kind));
       left = λ kind. left kind (h.left kind);
       fits = all_fitted_before places a.users b.users later h.fits;
     }
-
-    -- users are apart from the auxiliaries, and from each other
-    abbrev pub ArePeople : List ℕ → Type 0
-    ArePeople numbers = AreApartFrom clock_party numbers × (AreApartFrom text_party numbers × AreApart numbers)
 
     -- turns that were replied to were so before, and leave two replays level that were; users are given answers and nothing else, and what they heard are those of their entries
     pub record AreTame (turns : Replay → Replay) : Type 0 where
       pub before : (a : Replay) → IsRepliedTo (turns a) → IsRepliedTo a
       pub level : (a b : Replay) → IsLevel a b → IsRepliedTo (turns a) → IsRepliedTo (turns b) → IsLevel (turns a) (turns b)
       pub later : (a : Replay) → AreLater a.users (turns a).users
-      pub heard : (a : Replay) → ArePeople (numbers_of a.users) → AreHeard a.journal a.users → AreHeard (turns a).journal (turns a).users
+      pub heard : (a : Replay) → AreUsersApart (numbers_of a.users) → AreHeard a.journal a.users → AreHeard (turns a).journal (turns a).users
 
     tame_none : AreTame (λ a. a)
     tame_none = record { before = λ a h. h; level = λ a b level h k. level; later = λ a. none_later a.users; heard = λ a people h. h }
@@ -197,7 +191,7 @@ module _ {P : Type 0} (Fits : P → ℕ → List Exchange → Type 0) (older : (
       before = λ a h. f.before a (g.before (first a) h);
       level = λ a b level h k. g.level (first a) (first b) (f.level a b level (g.before (first a) h) (g.before (first b) k)) h k;
       later = λ a. all_later_still a.users (first a).users (then' (first a)).users (f.later a) (g.later (first a));
-      heard = λ a people h. g.heard (first a) (subst ArePeople (sym (same_numbers a.users (first a).users (f.later a))) people) (f.heard a people h);
+      heard = λ a people h. g.heard (first a) (subst AreUsersApart (sym (same_numbers a.users (first a).users (f.later a))) people) (f.heard a people h);
     }
 
     -- these turns or others
@@ -217,47 +211,30 @@ module _ {P : Type 0} (Fits : P → ℕ → List Exchange → Type 0) (older : (
       heard = λ a. (tame_by (some_user_stays a) turns (λ a. a) f tame_none).heard a;
     }
 
-    tame_ten : AreTame (auxiliary_turn clock_party)
-    tame_ten = record {
-      before = λ a h.
-          replied_before a ((auxiliary_turn clock_party) a) (older_by clock_party a.journal ((auxiliary_turn clock_party) a).journal (adds_served a.journal clock_party (a.replies clock_party) (work_of a.journal clock_party)))
-          (λ kind. left_before_turn a clock_party (party_of kind)) (none_later a.users) h;
-      level = λ a b level h k.
-          let there : Answers forgets_ten replies_ten BeginsTen clock_party (served a.journal clock_party (b.replies clock_party)).journal =
-          subst (λ (journal : Entries). Answers forgets_ten replies_ten BeginsTen clock_party (served journal clock_party (b.replies clock_party)).journal) (sym level.journal) k.ten_answers in
-          let some : b.replies clock_party ≢ [] = left_before_turn b clock_party clock_party (k.left Clock) in
-          record {
-            journal = same_served forgets_ten replies_ten BeginsTen AlikeTen one_ten clock_party a.journal (a.replies clock_party) (b.replies clock_party) (work_of a.journal clock_party) refl
-                (left_before_turn a clock_party clock_party (h.left Clock)) some h.ten_answers there
-                ∙ ap (λ (journal : Entries). (served journal clock_party (b.replies clock_party)).journal) level.journal;
-            users = level.users;
-          };
-      later = λ a. none_later a.users;
-      heard = λ a people h. all_heard_beside clock_party a.journal ((auxiliary_turn clock_party) a).journal a.users (adds_served a.journal clock_party (a.replies clock_party) (work_of a.journal clock_party)) people.0 h;
-    }
+    -- what answers behind each is determined
+    determined : (kind : AuxiliaryKind) → IsDetermined (forgets_of forgets_ten forgets_twenty kind) (replies_of replies_ten replies_twenty kind) (begins_of BeginsTen BeginsTwenty kind) (alike_of AlikeTen AlikeTwenty kind)
+    determined Clock = one_ten
+    determined TextFiles = one_twenty
 
-    tame_twenty : AreTame (auxiliary_turn text_party)
-    tame_twenty = record {
-      before = λ a h.
-          replied_before a ((auxiliary_turn text_party) a) (older_by text_party a.journal ((auxiliary_turn text_party) a).journal (adds_served a.journal text_party (a.replies text_party) (work_of a.journal text_party)))
-          (λ kind. left_before_turn a text_party (party_of kind)) (none_later a.users) h;
-      level = λ a b level h k.
-          let there : Answers forgets_twenty replies_twenty BeginsTwenty text_party (served a.journal text_party (b.replies text_party)).journal =
-          subst (λ (journal : Entries). Answers forgets_twenty replies_twenty BeginsTwenty text_party (served journal text_party (b.replies text_party)).journal) (sym level.journal) k.twenty_answers in
-          let some : b.replies text_party ≢ [] = left_before_turn b text_party text_party (k.left TextFiles) in
-          record {
-            journal = same_served forgets_twenty replies_twenty BeginsTwenty AlikeTwenty one_twenty text_party a.journal (a.replies text_party) (b.replies text_party) (work_of a.journal text_party) refl
-                (left_before_turn a text_party text_party (h.left TextFiles)) some h.twenty_answers there
-                ∙ ap (λ (journal : Entries). (served journal text_party (b.replies text_party)).journal) level.journal;
-            users = level.users;
-          };
-      later = λ a. none_later a.users;
-      heard = λ a people h. all_heard_beside text_party a.journal ((auxiliary_turn text_party) a).journal a.users (adds_served a.journal text_party (a.replies text_party) (work_of a.journal text_party)) people.1.0 h;
-    }
-
+    -- a turn of an auxiliary
     tame_auxiliary : (kind : AuxiliaryKind) → AreTame (auxiliary_turn (party_of kind))
-    tame_auxiliary Clock = tame_ten
-    tame_auxiliary TextFiles = tame_twenty
+    tame_auxiliary kind = record {
+      before = λ a h.
+          replied_before a (auxiliary_turn (party_of kind) a) (older_by (party_of kind) a.journal (auxiliary_turn (party_of kind) a).journal (adds_served a.journal (party_of kind) (a.replies (party_of kind)) (work_of a.journal (party_of kind))))
+          (λ other. left_before_turn a (party_of kind) (party_of other)) (none_later a.users) h;
+      level = λ a b level h k.
+          let there : AnswersBehind forgets_ten replies_ten BeginsTen forgets_twenty replies_twenty BeginsTwenty kind (served a.journal (party_of kind) (b.replies (party_of kind))).journal =
+          subst (λ (journal : Entries). AnswersBehind forgets_ten replies_ten BeginsTen forgets_twenty replies_twenty BeginsTwenty kind (served journal (party_of kind) (b.replies (party_of kind))).journal) (sym level.journal) (k.answers kind) in
+          let some : b.replies (party_of kind) ≢ [] = left_before_turn b (party_of kind) (party_of kind) (k.left kind) in
+          record {
+            journal = same_served (forgets_of forgets_ten forgets_twenty kind) (replies_of replies_ten replies_twenty kind) (begins_of BeginsTen BeginsTwenty kind) (alike_of AlikeTen AlikeTwenty kind) (determined kind) (party_of kind) a.journal (a.replies (party_of kind)) (b.replies (party_of kind)) (work_of a.journal (party_of kind)) refl
+                (left_before_turn a (party_of kind) (party_of kind) (h.left kind)) some (h.answers kind) there
+                ∙ ap (λ (journal : Entries). (served journal (party_of kind) (b.replies (party_of kind))).journal) level.journal;
+            users = level.users;
+          };
+      later = λ a. none_later a.users;
+      heard = λ a people h. all_heard_beside (party_of kind) a.journal (auxiliary_turn (party_of kind) a).journal a.users (adds_served a.journal (party_of kind) (a.replies (party_of kind)) (work_of a.journal (party_of kind))) (people.0 kind) h;
+    }
 
     -- turns of some auxiliaries, one after another
     tame_turns : (rows : List AuxiliaryRow) → AllByRecursion (λ (row : AuxiliaryRow). AreTame (auxiliary_turn row.party)) rows → AreTame (auxiliary_turns rows)
@@ -277,7 +254,7 @@ module _ {P : Type 0} (Fits : P → ℕ → List Exchange → Type 0) (older : (
             users = subst (λ (numbers : List ℕ). AreLevelWith (turns_where test (numbers_of a.users) a.journal a.users).users (turns_where test numbers b.journal b.users).users) (sym same) now.level;
           };
       later = λ a. later_turns test (numbers_of a.users) a.journal a.users;
-      heard = λ a people h. heard_turns test (numbers_of a.users) a.journal a.users people.1.1 h;
+      heard = λ a people h. heard_turns test (numbers_of a.users) a.journal a.users people.1 h;
     }
 
     tame_party : (party : ℕ) → AreTame (party_turn party)

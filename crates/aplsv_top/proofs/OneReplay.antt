@@ -5,7 +5,7 @@ use Rattle.std.specs.List.{AllByRecursion}
 use Rattle.std.proofs.lemmas.List.Elements.{All-head, All-tail}
 use Rattle.apl_arrays.specs.Ascending.{Ascend}
 use Rattle.apl_arrays.specs.Name.{name_order}
-use Rattle.aux_parties.specs.Auxiliaries.{clock_party, text_party}
+use Rattle.aux_parties.specs.Auxiliaries.{clock_party, party_of, text_party}
 use Rattle.apl_io.specs.Clock.{Ticks}
 use Rattle.apl_io.specs.Content.{Told, entry_of}
 use Rattle.auxiliaries.specs.Clock.{RepliesByReading}
@@ -16,6 +16,7 @@ use Rattle.bundle_text.specs.Rules.{IsUser}
 use Rattle.bundle_text.specs.User.{PlainUser}
 use Rattle.sv_journal.specs.Output.{PlainTranscript, output_text}
 use Rattle.sv_rules.specs.Entries.{Entries}
+use Rattle.aux_parties.specs.declared.auxiliary.AuxiliaryKind.{AuxiliaryKind}
 use Rattle.aux_parties.specs.declared.auxiliary.AuxiliaryKind.TheVariants.{Clock, TextFiles}
 use Rattle.session_rules.specs.Run.{AreUserParts, Dealings, ServeUsers}
 use Rattle.session_rules.specs.RunLaws.{PartsMakeOneTranscript}
@@ -23,10 +24,10 @@ use Rattle.replay_rules.specs.Turns.{newcomer, numbers_of, ordered, rounds}
 use Rattle.aplsv_replay.specs.Replayed.{IsRunInTurns}
 use Rattle.aplsv_top.specs.OutputLaws.{AllTellThroughout, LeavesNoneUntold, OutputsAreDetermined, ReplaysAreDetermined}
 use Rattle.aplsv_top.proofs.Clocks.{TickAlike, clocks_are_determined}
-use Rattle.aplsv_top.proofs.Determined.{Answers, IsDetermined}
+use Rattle.aplsv_top.proofs.Determined.{Answers, AnswersBehind, IsDetermined}
 use Rattle.aplsv_top.proofs.Ended.{DealingsFit, fit_at_end, same_dealings, same_parts}
 use Rattle.aplsv_top.proofs.Files.{BeginsWith, KnownReplies, OneText, ServeAlike, files_are_determined, holds_at_start, known_run}
-use Rattle.aplsv_top.proofs.Heard.{AreApart, AreApartFrom, AreHeard, ascending_apart}
+use Rattle.aplsv_top.proofs.Heard.{AreApartFrom, AreHeard, AreUsersApart, ascending_apart}
 use Rattle.aplsv_top.proofs.Level.{AreTame}
 use Rattle.aplsv_top.proofs.OneRun.{IsRepliedJournal, before_turns, one_journal, tame, users_left}
 use Rattle.aplsv_top.proofs.Shelves.{FitShelf, fit_earlier, fit_one}
@@ -48,13 +49,14 @@ same_list : (dealings : Dealings) (users : List PlainUser) → map (λ (user : P
 same_list dealings [] = refl
 same_list dealings (user ∷ users) = ap (λ (numbers : List ℕ). user.number ∷ numbers) (same_list dealings users)
 
-people : (dealings : Dealings) (bundle : PlainBundle) → IsBundle bundle → (let numbers : List ℕ = numbers_of (map (newcomer dealings) bundle.users) in AreApartFrom clock_party numbers × (AreApartFrom text_party numbers × AreApart numbers))
-people dealings bundle rules = (
-  no_auxiliary dealings bundle.users clock_party (omega arith) rules.each,
-  (
-    no_auxiliary dealings bundle.users text_party (omega arith) rules.each,
-    ascending_apart (numbers_of (map (newcomer dealings) bundle.users)) (subst Ascend (same_list dealings bundle.users) rules.ascending),
-  ),
+no_auxiliaries : (dealings : Dealings) (users : List PlainUser) → All IsUser users → (kind : AuxiliaryKind) → AreApartFrom (party_of kind) (numbers_of (map (newcomer dealings) users))
+no_auxiliaries dealings users each Clock = no_auxiliary dealings users clock_party (omega arith) each
+no_auxiliaries dealings users each TextFiles = no_auxiliary dealings users text_party (omega arith) each
+
+users_apart : (dealings : Dealings) (bundle : PlainBundle) → IsBundle bundle → AreUsersApart (numbers_of (map (newcomer dealings) bundle.users))
+users_apart dealings bundle rules = (
+  no_auxiliaries dealings bundle.users rules.each,
+  ascending_apart (numbers_of (map (newcomer dealings) bundle.users)) (subst Ascend (same_list dealings bundle.users) rules.ascending),
 )
 
 -- newcomers heard nothing
@@ -95,19 +97,23 @@ module _ {S U K : Type 0} (forgets_ten : S → ℕ → S → Type 0) (replies_te
   abbrev pub AreAnswered : Entries → Type 0
   AreAnswered journal = Answers forgets_ten replies_ten BeginsTen clock_party journal × Answers forgets_twenty replies_twenty BeginsTwenty text_party journal
 
+  -- each of them has
+  each_answered : (journal : Entries) → AreAnswered journal → (kind : AuxiliaryKind) → AnswersBehind forgets_ten replies_ten BeginsTen forgets_twenty replies_twenty BeginsTwenty kind journal
+  each_answered journal answered Clock = answered.0
+  each_answered journal answered TextFiles = answered.1
+
   module _ {X Y : Type 0} (forgets_x : X → ℕ → X → Type 0) (replies_x : X → ℕ → PlainArray → PlainArray → X → Type 0) (forgets_y : Y → ℕ → Y → Type 0) (replies_y : Y → ℕ → PlainArray → PlainArray → Y → Type 0) where
     replied : (places : List K) (journal : Entries) (transcripts : List PlainTranscript) (ten ten_then : X) (twenty twenty_then : Y) (shelves shelves_then : List K)
         → (run : IsRunInTurns forgets_x replies_x forgets_y replies_y told faults bundle journal transcripts ten ten_then twenty twenty_then shelves shelves_then)
         → AreAnswered journal → AllTellThroughout told faults run.dealings bundle.users shelves shelves_then run.run.shelves_served → map told shelves ≡ map told places → Replied places run.dealings journal
     replied places journal transcripts ten ten_then twenty twenty_then shelves shelves_then run answered all same = record {
       turns = run.turns.turns;
-      ten_answers = answered.0;
-      twenty_answers = answered.1;
+      answers = each_answered journal answered;
       fits = fit_at_end (FitShelf told faults) (fit_earlier told faults) (fit_one told faults) run.dealings journal places bundle.users
           (users_left bundle run.dealings journal run.turns.turns) transcripts
           ((turns_tame places run.turns.turns.count).later (before_turns bundle run.dealings journal run.turns.turns))
           (subst (λ (j : Entries). AreHeard j (users_left bundle run.dealings journal run.turns.turns)) run.turns.turns.last
-          ((turns_tame places run.turns.turns.count).heard (before_turns bundle run.dealings journal run.turns.turns) (people run.dealings bundle rules) (heard_nothing run.dealings bundle.users)))
+          ((turns_tame places run.turns.turns.count).heard (before_turns bundle run.dealings journal run.turns.turns) (users_apart run.dealings bundle rules) (heard_nothing run.dealings bundle.users)))
           run.run.users (dealings_fit told faults run.dealings bundle.users places shelves shelves_then run.run.shelves_served all same);
     }
 

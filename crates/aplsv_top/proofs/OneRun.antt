@@ -4,7 +4,7 @@ use Rattle.std.specs.Prelude.{All}
 use Rattle.std.proofs.lemmas.Bool.{leb-true, leb-false}
 use Rattle.std.proofs.lemmas.List.Elements.{All-head, All-tail}
 use Rattle.apl_arrays.specs.Array.{PlainArray}
-use Rattle.aux_parties.specs.Auxiliaries.{clock_party, text_party}
+use Rattle.aux_parties.specs.declared.auxiliary.AuxiliaryKind.{AuxiliaryKind}
 use Rattle.bundle_text.specs.Rules.{PlainBundle}
 use Rattle.bundle_text.specs.User.{PlainUser}
 use Rattle.sv_rules.specs.Entries.{Entries, has_left}
@@ -13,7 +13,7 @@ use Rattle.session_rules.specs.Run.{Dealings}
 use Rattle.session_rules.specs.Shelf.{Call, Exchange, ShelfReply, shelf_replies_in}
 use Rattle.replay_rules.proofs.Rounds.{stays}
 use Rattle.replay_rules.specs.Turns.{IsJournalOfTurns, Participant, Replay, beginning, some_user_stays, newcomer, numbers_of, ordered, rounds}
-use Rattle.aplsv_top.proofs.Determined.{Answers, IsDetermined}
+use Rattle.aplsv_top.proofs.Determined.{AnswersBehind, IsDetermined}
 use Rattle.aplsv_top.proofs.Level.{AreFitting, AreLevelWith, AreTame, IsLevel, IsRepliedTo, tame_replay}
 use Rattle.aplsv_top.proofs.Older.{same_numbers}
 
@@ -55,8 +55,7 @@ module _ {P : Type 0} (Fits : P → ℕ → List Exchange → Type 0) (older : (
   -- a journal of the bundle's turns with these dealings that both auxiliaries replied to, and whose users' exchanges fit at the end
   pub record IsRepliedJournal (dealings : Dealings) (journal : Entries) : Type 0 where
     pub turns : IsJournalOfTurns bundle dealings journal
-    pub ten_answers : Answers forgets_ten replies_ten BeginsTen clock_party journal
-    pub twenty_answers : Answers forgets_twenty replies_twenty BeginsTwenty text_party journal
+    pub answers : (kind : AuxiliaryKind) → AnswersBehind forgets_ten replies_ten BeginsTen forgets_twenty replies_twenty BeginsTwenty kind journal
     pub fits : AreFitting Fits older one_reply places (users_left bundle dealings journal turns)
 
   module _ (dealings : Dealings) (journal : Entries) (h : IsRepliedJournal dealings journal) where
@@ -71,8 +70,7 @@ module _ {P : Type 0} (Fits : P → ℕ → List Exchange → Type 0) (older : (
 
     last_replied : RepliedTo (after h.turns.count)
     last_replied = record {
-      ten_answers = subst (Answers forgets_ten replies_ten BeginsTen clock_party) (sym h.turns.last) h.ten_answers;
-      twenty_answers = subst (Answers forgets_twenty replies_twenty BeginsTwenty text_party) (sym h.turns.last) h.twenty_answers;
+      answers = λ kind. subst (AnswersBehind forgets_ten replies_ten BeginsTen forgets_twenty replies_twenty BeginsTwenty kind) (sym h.turns.last) (h.answers kind);
       left = h.turns.enough;
       fits = h.fits;
     }

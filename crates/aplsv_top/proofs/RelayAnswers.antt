@@ -3,7 +3,7 @@ use Rattle.std.proofs.Common.{◌≡◌, ◌<◌, ◌↔◌, ◌⊎◌, ℕ, suc
 use Rattle.std.proofs.lemmas.List.Kept.{AllPairs-from_increasing}
 use Rattle.apl_arrays.specs.Array.{PlainArray}
 use Rattle.aux_relay.specs.History.{AreSenders, IsAnswerTo, Reply, parties_answer}
-use Rattle.aux_relay.specs.Queues.{HoldUntaken, Queues, Relays}
+use Rattle.aux_relay.specs.Queues.{AreUntaken, Queues, Relays}
 use Rattle.aux_relay.specs.Request.{Request, other, request_of, send, take_from, waiting}
 use Rattle.sv_offer_laws.proofs.Members.{Contains-behind, Contains-cons_cases, Contains-head}
 use Rattle.aplsv_top.proofs.Determined.{IsDetermined}
@@ -61,8 +61,8 @@ one_answer_to other party answer another replies is also = is ∙ sym also
 -- the queues of two relays hold what is left of the same replies
 pub record RelayAlike (a b : Queues) : Type 0 where
   pub replies : List Reply
-  pub first : HoldUntaken a replies
-  pub second : HoldUntaken b replies
+  pub first : AreUntaken a replies
+  pub second : AreUntaken b replies
 
 replied_alike : (a b : Queues) (party : ℕ) (value answer another : PlainArray) (c d : Queues) → RelayAlike a b → Relays a party value answer c → Relays b party value another d → (answer ≡ another) × RelayAlike c d
 replied_alike a b party value answer another c d alike step also =
@@ -73,12 +73,12 @@ replied_alike a b party value answer another c d alike step also =
       record {
         replies = record { party = party; value = value; answer = answer } ∷ alike.replies;
         first = here.1;
-        second = subst (λ (x : PlainArray). HoldUntaken d (record { party = party; value = value; answer = x } ∷ alike.replies)) (sym same) there.1;
+        second = subst (λ (x : PlainArray). AreUntaken d (record { party = party; value = value; answer = x } ∷ alike.replies)) (sym same) there.1;
       },
     )
 
-nothing_held : (queues : Queues) → queues ≡ [] → HoldUntaken queues []
-nothing_held queues empty = subst (λ (qs : Queues). HoldUntaken qs []) (sym empty) (record { texts = λ from to. refl; count = refl })
+nothing_held : (queues : Queues) → queues ≡ [] → AreUntaken queues []
+nothing_held queues empty = subst (λ (qs : Queues). AreUntaken qs []) (sym empty) (record { texts = λ from to. refl; count = refl })
 
 -- the replies of a relay that held nothing are determined
 pub relays_are_determined : IsDetermined (λ old party new. new ≡ old) Relays (λ (queues : Queues). queues ≡ []) RelayAlike
@@ -86,8 +86,8 @@ relays_are_determined = record {
   begun = λ a b is are. record { replies = []; first = nothing_held a is; second = nothing_held b are };
   forgotten = λ a b party c d alike same also. record {
     replies = alike.replies;
-    first = subst (λ (qs : Queues). HoldUntaken qs alike.replies) (sym same) alike.first;
-    second = subst (λ (qs : Queues). HoldUntaken qs alike.replies) (sym also) alike.second;
+    first = subst (λ (qs : Queues). AreUntaken qs alike.replies) (sym same) alike.first;
+    second = subst (λ (qs : Queues). AreUntaken qs alike.replies) (sym also) alike.second;
   };
   replied = λ a b party value answer another c d alike step also. replied_alike a b party value answer another c d alike step also;
 }

@@ -12,7 +12,7 @@ use Rattle.apl_io.specs.declared.store_error.StoreError.TheVariants.{Failed, Wan
 use Rattle.auxiliaries.specs.Request.{request_of}
 use Rattle.auxiliaries.specs.Protocol.{AfterReplace, Step, answers, reads, replaces, protocol_step}
 use Rattle.auxiliaries.specs.Run.{Event, IsReplierRun, answered, began}
-use Rattle.auxiliaries.specs.Served.{Replies, Served, Takes, forgotten}
+use Rattle.auxiliaries.specs.Served.{Replies, Served, TakesStep, forgotten}
 use Rattle.bundle_text.specs.User.{PlainUser}
 use Rattle.session_rules.specs.Run.{Dealings, ServeUsers}
 use Rattle.session_rules.specs.Shelf.{Call, Exchange, IsShelfRun, ShelfReply, Serves, browse, discard, discarded, fetch, reply_as, store, stored}
@@ -59,7 +59,7 @@ module _ {K : Type 0} (order : K → K → Ordering) where
 -- ---- text files
 
 module _ {T : Type 0} (told : T → Option (Told (List ℕ))) (faults : T → ℕ) where
-  taken_sound : (s : Step) (a : Served T) (answer : PlainArray) (c : Served T) → Takes told faults s a answer c → TellsSound name_order (told a.store) → TellsSound name_order (told c.store)
+  taken_sound : (s : Step) (a : Served T) (answer : PlainArray) (c : Served T) → TakesStep told faults s a answer c → TellsSound name_order (told a.store) → TellsSound name_order (told c.store)
   taken_sound (answers value state) a answer c takes h = subst (λ (t : T). TellsSound name_order (told t)) (sym (ap (λ (s : Served T). s.store) takes.1)) h
   taken_sound (reads name) a answer c takes h =
       let p = some_and (told c.store) (IsRead name_order h.now name takes.reply) (subst (λ (o : Option (Told (List ℕ))). Reads name_order o name takes.reply (told c.store)) h.tells takes.told_reply) in

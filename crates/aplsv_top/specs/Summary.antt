@@ -28,15 +28,15 @@ abbrev pub last_line : List PlainTranscript → Option (List ℕ)
 last_line transcripts = option_and_then (λ transcript. last_of transcript.lines) (find (λ transcript. transcript.user == 1002) transcripts)
 
 -- a word, and a number behind it
-abbrev pub counted : List ℕ → ℕ → List ℕ
-counted word number = spaced (word ∷ decimal number ∷ [])
+abbrev pub summary_line : List ℕ → ℕ → List ℕ
+summary_line word number = spaced (word ∷ decimal number ∷ [])
 
 -- the numbers given, the entries, those that were held, the lines of all transcripts, and the last line of the user who adds
 abbrev pub summary_text : ℕ → List PlainTranscript → List PlainEntry → List ℕ → List ℕ
 summary_text n transcripts journal last =
     lines_text
-    (counted (codes "load") n ∷ counted (codes "entries") (length journal) ∷ counted (codes "held") (held_count journal)
-    ∷ counted (codes "lines") (line_count transcripts) ∷ content last ∷ end_line ∷ [])
+    (summary_line (codes "load") n ∷ summary_line (codes "entries") (length journal) ∷ summary_line (codes "held") (held_count journal)
+    ∷ summary_line (codes "lines") (line_count transcripts) ∷ content last ∷ end_line ∷ [])
 
 -- the text is that, with the last line that there is
 pub record IsSummary (n : ℕ) (transcripts : List PlainTranscript) (journal : List PlainEntry) (text : List ℕ) : Type 0 where

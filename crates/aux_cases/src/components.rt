@@ -52,10 +52,10 @@ impl Trial for ComponentSessions {
 }
 
 /// Values given to component files in each state of their protocol: the calls of the store that are to fail, and a value; what
-/// the value is answered between commands, while an array is held and while a file waits for an array, and then NEXT, and
+/// the value is answered between requests, while an array is held and while a file waits for an array, and then NEXT, and
 /// COUNT of that file, and NEXT again.
 #[derive(Clone, Copy, Debug)]
-pub struct ComponentCommands;
+pub struct ComponentRequests;
 
 // What leads to each state.
 const BEFORE: [&str; 3] = ["'NEXT'", "'GET A 1'", "'APPEND A'"];
@@ -81,7 +81,7 @@ fn answers_then(
     answers(alloc, files, values.as_str())
 }
 
-impl Trial for ComponentCommands {
+impl Trial for ComponentRequests {
     fn given(&self) -> usize {
         2
     }

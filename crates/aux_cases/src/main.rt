@@ -17,18 +17,18 @@ mod text;
 use anyhow::Result;
 use case_tables::{conclude, run_calls, run_table};
 use clock::ClockSessions;
-use components::{ComponentCommands, ComponentSessions};
+use components::{ComponentRequests, ComponentSessions};
 use folders::{FolderShelves, FolderStores};
 use machine::Machine;
 use relay::RelaySequences;
 use shelf::Shelves;
 use std::process::ExitCode;
 use store::Stores;
-use text::{TextCommands, TextSessions};
+use text::{TextRequests, TextSessions};
 
 fn main(rt: HostRuntime) -> Result<ExitCode> {
     let mut tally = run_table(&rt, "text.txt", &TextSessions)?;
-    tally.add(run_table(&rt, "commands.txt", &TextCommands)?);
+    tally.add(run_table(&rt, "requests.txt", &TextRequests)?);
     tally.add(run_table(&rt, "files.txt", &TextSessions)?);
     tally.add(run_table(&rt, "clock.txt", &ClockSessions)?);
     tally.add(run_table(&rt, "shelves.txt", &Shelves)?);
@@ -38,7 +38,7 @@ fn main(rt: HostRuntime) -> Result<ExitCode> {
     tally.add(run_calls(&rt, "streams and clocks", &Machine { rt })?);
     tally.add(run_table(&rt, "components.txt", &ComponentSessions)?);
     tally.add(run_table(&rt, "component_files.txt", &ComponentSessions)?);
-    tally.add(run_table(&rt, "component_commands.txt", &ComponentCommands)?);
+    tally.add(run_table(&rt, "component_requests.txt", &ComponentRequests)?);
     tally.add(run_table(&rt, "relay.txt", &RelaySequences)?);
     conclude(&rt, tally)
 }

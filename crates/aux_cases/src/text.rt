@@ -51,10 +51,10 @@ impl Trial for TextSessions {
     }
 }
 
-/// Commands to the text auxiliary in each state of its protocol: the calls of its store that are to fail, and a value;
+/// Requests of the text auxiliary in each state of its protocol: the calls of its store that are to fail, and a value;
 /// what the value, NEXT and DONE are answered between files, while a file is read, and while one is written.
 #[derive(Clone, Copy, Debug)]
-pub struct TextCommands;
+pub struct TextRequests;
 
 // What leads to each state.
 const BEFORE: [&str; 3] = ["'NEXT'", "'READ NOTES'", "'WRITE OUT' / 'PUT A'"];
@@ -80,7 +80,7 @@ fn answers_then(
     answers(alloc, aux, values.as_str())
 }
 
-impl Trial for TextCommands {
+impl Trial for TextRequests {
     fn given(&self) -> usize {
         2
     }

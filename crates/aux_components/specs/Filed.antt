@@ -44,14 +44,14 @@ module _ {T : Type 0} (told : T → Option (Told (List ℕ))) (faults : T → �
     pub done : IsDone due between name answer new
 
   -- a step with its answer
-  abbrev pub Takes : Step → Filed T → PlainArray → Filed T → Type 0
-  Takes (answers value state) old answer new = (answer ≡ value) × (new ≡ record { store = old.store; state = state })
-  Takes (asks name number) old answer new = IsAskedStep old name number answer new
-  Takes (changes name number value) old answer new = IsChangeStep old.store name number value answer new.store × (new.state ≡ idle)
+  abbrev pub TakesStep : Step → Filed T → PlainArray → Filed T → Type 0
+  TakesStep (answers value state) old answer new = (answer ≡ value) × (new ≡ record { store = old.store; state = state })
+  TakesStep (asks name number) old answer new = IsAskedStep old name number answer new
+  TakesStep (changes name number value) old answer new = IsChangeStep old.store name number value answer new.store × (new.state ≡ idle)
 
   -- the answer to a value
   abbrev pub Replies : Filed T → PlainArray → PlainArray → Filed T → Type 0
-  Replies old value answer new = Takes (protocol_step value old.state) old answer new
+  Replies old value answer new = TakesStep (protocol_step value old.state) old answer new
 
 -- the protocol begins anew
 abbrev pub forgotten : {T : Type 0} → Filed T → Filed T

@@ -15,7 +15,7 @@ pub data FileState : Type 0 where
   holding : PlainArray → FileState
   taking : List ℕ → Option ℕ → FileState
 
--- what a value leads to: an answer and the next state with no call of the store, a question to a file, or a change of one
+-- what a value leads to: an answer and the next state with no call of the store, a look at a file, or a change of one
 pub data Step : Type 0 where
   answers : PlainArray → FileState → Step
   asks : List ℕ → Option ℕ → Step
@@ -81,7 +81,7 @@ abbrev pub due_of_none : Option ℕ → PlainArray → DueChange
 due_of_none None value = due_of (components_changed None [] value)
 due_of_none (Some number) value = refuses 1
 
--- what is due by the answer of the store: 1, 3 and 4 as for a question
+-- what is due by the answer of the store: 1, 3 and 4 as for a look
 abbrev pub IsDue : Option ℕ → PlainArray → Result (Option (List ℕ)) StoreError → DueChange → Type 0
 IsDue number value (Ok None) due = due ≡ due_of_none number value
 IsDue number value (Ok (Some bytes)) due = ((arrays : List PlainArray) × AreComponents bytes arrays × (due ≡ due_of (components_changed number arrays value))) ⊎ (AreNoComponents bytes × (due ≡ refuses 4))

@@ -2,7 +2,7 @@ ghost use Rattle.std.specs.Prelude.{◌≡◌, ◌≤◌, IfOk, OnErr};
 ghost use Rattle.std.specs.String.{string_bytes};
 ghost use Rattle.auxiliaries.specs.Protocol.{code};
 ghost use Rattle.aux_components.specs.Request.{request_of};
-ghost use Rattle.aux_components.specs.Filed.{IsAskedStep, IsChangeStep, IsReplaced, KeepsFiles, Replies, Takes, forgotten};
+ghost use Rattle.aux_components.specs.Filed.{IsAskedStep, IsChangeStep, IsReplaced, KeepsFiles, Replies, TakesStep, forgotten};
 ghost use Rattle.aux_components.specs.Plain.{code_number};
 ghost use Rattle.aux_components.specs.Protocol.{request_step, step_ask, step_next, step_take, taking};
 
@@ -84,7 +84,7 @@ impl<T: TextStore> Components<T> {
 
     // The answer to a value, where no file waits for an array.
     fn obey(&mut self, value: &Array) -> Result<Array, WantOfMemory>
-        ensures ok { IfOk result (λ answer. Takes T.told T.faults (request_step (request_of value.now) self.old.state) self.old answer self.new) }
+        ensures ok { IfOk result (λ answer. TakesStep T.told T.faults (request_step (request_of value.now) self.old.state) self.old answer self.new) }
         ensures state { OnErr result (self.new.state ≡ self.old.state) }
         ensures files { OnErr result (KeepsFiles (T.told self.old.store) (T.told self.new.store)) }
         ensures counted { T.faults self.old.store ≤ T.faults self.new.store }
@@ -101,7 +101,7 @@ impl<T: TextStore> Components<T> {
 
     // `COUNT name`, or `GET name K`.
     fn ask(&mut self, name: &[Glyph], number: Option<u32>) -> Result<Array, WantOfMemory>
-        ensures ok { IfOk result (λ answer. Takes T.told T.faults (step_ask name.now number self.old.state) self.old answer self.new) }
+        ensures ok { IfOk result (λ answer. TakesStep T.told T.faults (step_ask name.now number self.old.state) self.old answer self.new) }
         ensures state { OnErr result (self.new.state ≡ self.old.state) }
         ensures files { OnErr result (KeepsFiles (T.told self.old.store) (T.told self.new.store)) }
         ensures counted { T.faults self.old.store ≤ T.faults self.new.store }
@@ -126,7 +126,7 @@ impl<T: TextStore> Components<T> {
 
     // `NEXT`.
     fn next(&mut self) -> Array
-        ensures { Takes T.told T.faults (step_next self.old.state) self.old result self.new }
+        ensures { TakesStep T.told T.faults (step_next self.old.state) self.old result self.new }
     {
         match mem::replace(&mut self.state, FileState::Idle) {
             FileState::Holding(array) => array,
@@ -139,7 +139,7 @@ impl<T: TextStore> Components<T> {
 
     // `APPEND name`, or `REPLACE name K`.
     fn wait(&mut self, name: &[Glyph], number: Option<u32>) -> Result<Array, WantOfMemory>
-        ensures ok { IfOk result (λ answer. Takes T.told T.faults (step_take name.now number self.old.state) self.old answer self.new) }
+        ensures ok { IfOk result (λ answer. TakesStep T.told T.faults (step_take name.now number self.old.state) self.old answer self.new) }
         ensures err { OnErr result (self.new ≡ self.old) }
     {
         match file_name(self.alloc, name)? {

@@ -73,7 +73,7 @@ pub fn changes_are_kept<T: TextStore + Drop>()
         → T.told old ≡ Some before → T.told new ≡ Some after → IsValue value → HasComponents (entry_of name_order before name) arrays → IsChanged before after name number arrays value }
 {}
 
-/// Where a store tells its files, after an answer 0 to a question what is held is what was asked of the components of the
+/// Where a store tells its files, after an answer 0 to a look what is held is what was asked of the components of the
 /// file, and all files are as before. The call does nothing.
 pub fn components_are_told<T: TextStore + Drop>()
     ensures { (old new : Filed T) (name : List ℕ) (number : Option ℕ) (arrays : List PlainArray) (before after : Told (List ℕ)) → IsAskedStep T.told T.faults old name number (code 0) new

@@ -56,7 +56,7 @@ fn change_in(glyphs: &[Glyph]) -> Request<'_>
     }
 }
 
-// The question, where nothing stands behind its word.
+// The request, where nothing stands behind its word.
 fn next_in(glyphs: &[Glyph]) -> Request<'_>
     ensures { plain_request result ≡ next_in glyphs.now }
 {

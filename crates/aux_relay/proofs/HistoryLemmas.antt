@@ -13,8 +13,8 @@ use Rattle.auxiliaries.specs.Protocol.{code}
 use Rattle.auxiliaries.specs.Run.{Event, began, answered, IsReplierRun}
 use Rattle.aux_relay.specs.Changes.{AddsLast, DoesRequest, Drops, Sends, TakesText, TellsSenders, senders_in}
 use Rattle.aux_relay.specs.Request.{Request, send, take_from, waiting, other, request_of}
-use Rattle.aux_relay.specs.History.{AreRelayed, AreSenders, IsAnswerTo, Reply, texts_given, given_by, held_count, is_done, is_given, is_send, is_take, is_taken, most_texts, next_text, parties_answer, texts_taken, taken_by, takes_from, text_answer, text_in, text_to}
-use Rattle.aux_relay.specs.Queues.{HoldUntaken, Queues, Relays, queue_at, replies_among, same_queue, text_count}
+use Rattle.aux_relay.specs.History.{AreRelayed, AreSenders, IsAnswerTo, Reply, texts_given, given_by, untaken_count, is_done, is_given, is_send, is_take, is_taken, most_texts, next_text, parties_answer, texts_taken, taken_by, takes_from, text_answer, text_in, text_to}
+use Rattle.aux_relay.specs.Queues.{AreUntaken, Queues, Relays, queue_at, replies_among, same_queue, text_count}
 use Rattle.aux_relay.proofs.QueueLemmas.{queue_is}
 use Rattle.aux_relay.proofs.SenderLemmas.{sender_has_text, sender_numbers, senders_are_numbers, senders_ascend, text_has_sender}
 
@@ -22,9 +22,9 @@ use Rattle.aux_relay.proofs.SenderLemmas.{sender_has_text, sender_numbers, sende
 count_one : (p : Reply → Bool) (reply : Reply) (replies : List Reply) → count_by p (reply ∷ replies) ≡ cond (p reply) 1 0 + count_by p replies
 count_one p reply replies = sum_by-cons (λ (r : Reply). cond (p r) 1 0) reply replies
 
-hold_more : (old new : Queues) (reply : Reply) (replies : List Reply) → HoldUntaken old replies
+hold_more : (old new : Queues) (reply : Reply) (replies : List Reply) → AreUntaken old replies
     → ((from to : ℕ) → queue_at old (to, from) ++ given_by from to reply ≡ taken_by from to reply ++ queue_at new (to, from))
-    → text_count old + cond (is_given reply) 1 0 ≡ cond (is_taken reply) 1 0 + text_count new → HoldUntaken new (reply ∷ replies)
+    → text_count old + cond (is_given reply) 1 0 ≡ cond (is_taken reply) 1 0 + text_count new → AreUntaken new (reply ∷ replies)
 hold_more old new reply replies held moves counts = record {
   texts = λ from to.
       ap (λ texts. texts ++ given_by from to reply) (held.texts from to)
@@ -34,11 +34,11 @@ hold_more old new reply replies held moves counts = record {
   count = omega (arith, held.count, counts, count_one is_given reply replies, count_one is_taken reply replies);
 }
 
--- what is held by both accounts
-held_is : (queues : Queues) (replies : List Reply) → HoldUntaken queues replies → held_count replies ≡ text_count queues
+-- what is left by both accounts
+held_is : (queues : Queues) (replies : List Reply) → AreUntaken queues replies → untaken_count replies ≡ text_count queues
 held_is queues replies held = omega (arith, held.count)
 
-next_is : (queues : Queues) (replies : List Reply) (from to : ℕ) → HoldUntaken queues replies → next_text from to replies ≡ first_of (queue_at queues (to, from))
+next_is : (queues : Queues) (replies : List Reply) (from to : ℕ) → AreUntaken queues replies → next_text from to replies ≡ first_of (queue_at queues (to, from))
 next_is queues replies from to held =
     ap (λ texts. first_of (drop (length (texts_taken from to replies)) texts)) (held.texts from to)
     ∙ ap first_of (drop_at (texts_taken from to replies) (queue_at queues (to, from)) (length (texts_taken from to replies)) refl)
@@ -73,24 +73,24 @@ module _ (party : ℕ) (value answer : PlainArray) where
       ∙ ap (λ b. cond b (text_to to (request_of value)) []) (and-false (eqb party from))
 
   -- the queues are as they were
-  same_queues : (queues new : Queues) (replies : List Reply) → HoldUntaken queues replies → new ≡ queues
+  same_queues : (queues new : Queues) (replies : List Reply) → AreUntaken queues replies → new ≡ queues
       → ((from to : ℕ) → given_by from to reply ≡ []) → ((from to : ℕ) → taken_by from to reply ≡ [])
-      → ◌≡◌ {A = ℕ} (cond (is_given reply) 1 0) 0 → ◌≡◌ {A = ℕ} (cond (is_taken reply) 1 0) 0 → HoldUntaken new (reply ∷ replies)
+      → ◌≡◌ {A = ℕ} (cond (is_given reply) 1 0) 0 → ◌≡◌ {A = ℕ} (cond (is_taken reply) 1 0) 0 → AreUntaken new (reply ∷ replies)
   same_queues queues new replies held same none_given none_taken count_given count_taken =
-      subst (λ (qs : Queues). HoldUntaken qs (reply ∷ replies)) (sym same)
+      subst (λ (qs : Queues). AreUntaken qs (reply ∷ replies)) (sym same)
       (hold_more queues queues reply replies held
       (λ from to. ap (λ texts. queue_at queues (to, from) ++ texts) (none_given from to) ∙ append-nil (queue_at queues (to, from)) ∙ ap (λ texts. texts ++ queue_at queues (to, from)) (sym (none_taken from to)))
       (omega (arith, count_given, count_taken)))
 
   -- what is no request
-  refuses : (queues new : Queues) (replies : List Reply) → request_of value ≡ other → HoldUntaken queues replies → (answer ≡ code 2) × (new ≡ queues)
-      → IsAnswerTo other party answer replies × HoldUntaken new (reply ∷ replies)
+  refuses : (queues new : Queues) (replies : List Reply) → request_of value ≡ other → AreUntaken queues replies → (answer ≡ code 2) × (new ≡ queues)
+      → IsAnswerTo other party answer replies × AreUntaken new (reply ∷ replies)
   refuses queues new replies is held does =
       (does.0, same_queues queues new replies held does.1 (λ from to. gives_none from to (ap (text_to to) is)) (λ from to. takes_none from to (ap (takes_from from) is)) (not_given (ap is_send is)) (not_taken (ap is_take is)))
 
   -- who has sent
-  tells : (queues new : Queues) (replies : List Reply) → request_of value ≡ waiting → HoldUntaken queues replies → TellsSenders queues party answer new
-      → IsAnswerTo waiting party answer replies × HoldUntaken new (reply ∷ replies)
+  tells : (queues new : Queues) (replies : List Reply) → request_of value ≡ waiting → AreUntaken queues replies → TellsSenders queues party answer new
+      → IsAnswerTo waiting party answer replies × AreUntaken new (reply ∷ replies)
   tells queues new replies is held does =
       ((sender_numbers party queues, senders, answered), same_queues queues new replies held does.kept (λ from to. gives_none from to (ap (text_to to) is)) (λ from to. takes_none from to (ap (takes_from from) is)) (not_given (ap is_send is)) (not_taken (ap is_take is)))
     where
@@ -114,15 +114,15 @@ module _ (party : ℕ) (value answer : PlainArray) where
           (senders_are_numbers party queues)
 
   -- a text that is sent
-  sends : (user : ℕ) (text : List ℕ) (queues new : Queues) (replies : List Reply) → request_of value ≡ send user text → HoldUntaken queues replies → Sends queues (user, party) text answer new
-      → IsAnswerTo (send user text) party answer replies × HoldUntaken new (reply ∷ replies)
+  sends : (user : ℕ) (text : List ℕ) (queues new : Queues) (replies : List Reply) → request_of value ≡ send user text → AreUntaken queues replies → Sends queues (user, party) text answer new
+      → IsAnswerTo (send user text) party answer replies × AreUntaken new (reply ∷ replies)
   sends user text queues new replies is held does = by (eqb (text_count queues) most_texts) refl does
     where
       taken_none : (from to : ℕ) → taken_by from to reply ≡ []
       taken_none from to = takes_none from to (ap (takes_from from) is)
 
       by : (b : Bool) → eqb (text_count queues) most_texts ≡ b → MatchBool b ((answer ≡ code 4) × (new ≡ queues)) ((answer ≡ code 0) × AddsLast queues (user, party) text new)
-          → (answer ≡ cond (eqb (held_count replies) most_texts) (code 4) (code 0)) × HoldUntaken new (reply ∷ replies)
+          → (answer ≡ cond (eqb (untaken_count replies) most_texts) (code 4) (code 0)) × AreUntaken new (reply ∷ replies)
       by true full does =
           let refused : is_done answer ≡ false = ap is_done does.0 in (
             does.0 ∙ ap (λ b. cond b (code 4) (code 0)) (sym (ap (λ n. eqb n most_texts) (held_is queues replies held) ∙ full)),
@@ -148,8 +148,8 @@ module _ (party : ℕ) (value answer : PlainArray) where
               choice false false = append-nil (queue_at queues (to, from))
 
   -- a text that is taken
-  takes : (user : ℕ) (queues new : Queues) (replies : List Reply) → request_of value ≡ take_from user → HoldUntaken queues replies → TakesText queues (party, user) answer new
-      → IsAnswerTo (take_from user) party answer replies × HoldUntaken new (reply ∷ replies)
+  takes : (user : ℕ) (queues new : Queues) (replies : List Reply) → request_of value ≡ take_from user → AreUntaken queues replies → TakesText queues (party, user) answer new
+      → IsAnswerTo (take_from user) party answer replies × AreUntaken new (reply ∷ replies)
   takes user queues new replies is held does =
       (does.0 ∙ ap text_answer (sym (next_is queues replies user party held)), hold_more queues new reply replies held moves counts)
     where
@@ -199,15 +199,15 @@ by_history other party value answer old new is does = λ replies held.
     (subst (λ c. IsAnswerTo c party answer replies) (sym is) both.0, both.1)
 
 -- queues that hold nothing hold what is left of nothing
-pub nothing_yet : (queues : Queues) → queues ≡ [] → HoldUntaken queues []
-nothing_yet queues empty = subst (λ (qs : Queues). HoldUntaken qs []) (sym empty) (record { texts = λ from to. refl; count = refl })
+pub nothing_yet : (queues : Queues) → queues ≡ [] → AreUntaken queues []
+nothing_yet queues empty = subst (λ (qs : Queues). AreUntaken qs []) (sym empty) (record { texts = λ from to. refl; count = refl })
 
 -- a run of the relay
-pub run_is_relayed : (events : List Event) (end : Queues) → IsReplierRun (λ old party new. new ≡ old) Relays [] events end → AreRelayed (replies_among events) × HoldUntaken end (replies_among events)
+pub run_is_relayed : (events : List Event) (end : Queues) → IsReplierRun (λ old party new. new ≡ old) Relays [] events end → AreRelayed (replies_among events) × AreUntaken end (replies_among events)
 run_is_relayed [] end run = (tt, nothing_yet end run)
 run_is_relayed (began party ∷ events) end run =
     let rest = run_is_relayed events run.0 run.1 in
-    (rest.0, subst (λ (qs : Queues). HoldUntaken qs (replies_among events)) (sym run.2) rest.1)
+    (rest.0, subst (λ (qs : Queues). AreUntaken qs (replies_among events)) (sym run.2) rest.1)
 run_is_relayed (answered party value answer ∷ events) end run =
     let rest = run_is_relayed events run.0 run.1 in
     let step = run.2 (replies_among events) rest.1 in

@@ -79,9 +79,9 @@ is_given reply = is_done reply.answer && is_send (request_of reply.value)
 abbrev pub is_taken : Reply → Bool
 is_taken reply = is_chars reply.answer.items && is_take (request_of reply.value)
 
--- how many texts are held: those that were given, without those that were taken
-abbrev pub held_count : List Reply → ℕ
-held_count replies = count_by is_given replies - count_by is_taken replies
+-- how many texts are left: those that were given, without those that were taken
+abbrev pub untaken_count : List Reply → ℕ
+untaken_count replies = count_by is_given replies - count_by is_taken replies
 
 -- the text after those already taken, where one is left
 abbrev pub next_text : ℕ → ℕ → List Reply → Option (List ℕ)
@@ -101,9 +101,9 @@ pub record AreSenders (to : ℕ) (parties : List ℕ) (replies : List Reply) : T
 abbrev pub parties_answer : List ℕ → PlainArray
 parties_answer parties = number_array (length parties ∷ []) (map pos parties)
 
--- the answer to a party's request behind replies: SEND is answered 4 exactly where as many texts are held as may be, and what is no request is answered 2
+-- the answer to a party's request behind replies: SEND is answered 4 exactly where as many texts are left as may wait, and what is no request is answered 2
 abbrev pub IsAnswerTo : Request → ℕ → PlainArray → List Reply → Type 0
-IsAnswerTo (send to text) party answer replies = answer ≡ (if held_count replies == most_texts then code 4 else code 0)
+IsAnswerTo (send to text) party answer replies = answer ≡ (if untaken_count replies == most_texts then code 4 else code 0)
 IsAnswerTo (take_from from) party answer replies = answer ≡ text_answer (next_text from party replies)
 IsAnswerTo waiting party answer replies = (parties : List ℕ) × AreSenders party parties replies × (answer ≡ parties_answer parties)
 IsAnswerTo other party answer replies = answer ≡ code 2

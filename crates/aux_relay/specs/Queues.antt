@@ -25,14 +25,14 @@ abbrev pub text_count : Queues → ℕ
 text_count queues = sum_by (λ texts. length texts) (values_of queues)
 
 -- the queues hold what was given and not taken
-pub record HoldUntaken (queues : Queues) (replies : List Reply) : Type 0 where
+pub record AreUntaken (queues : Queues) (replies : List Reply) : Type 0 where
   pub texts : (from to : ℕ) → texts_given from to replies ≡ texts_taken from to replies ++ queue_at queues (to, from)
   pub count : count_by is_given replies ≡ count_by is_taken replies + text_count queues
 
 -- a reply of the relay: whatever was asked and answered before, where the queues hold what is left of it, the answer is the relay's, and then they hold what is left with this reply
 abbrev pub Relays : Queues → ℕ → PlainArray → PlainArray → Queues → Type 0
-Relays old party value answer new = (replies : List Reply) → HoldUntaken old replies
-    → IsAnswerTo (request_of value) party answer replies × HoldUntaken new (record { party = party; value = value; answer = answer } ∷ replies)
+Relays old party value answer new = (replies : List Reply) → AreUntaken old replies
+    → IsAnswerTo (request_of value) party answer replies × AreUntaken new (record { party = party; value = value; answer = answer } ∷ replies)
 
 -- the replies among what happens to a replier
 abbrev pub replies_among : List Event → List Reply

@@ -3,8 +3,8 @@ ghost use Rattle.apl_arrays.specs.Parties.{is_user_number};
 ghost use Rattle.auxiliaries.specs.Protocol.{code, no_line, line_answer};
 ghost use Rattle.auxiliaries.specs.Run.{Event, IsReplierRun};
 ghost use Rattle.aux_relay.specs.Request.{request_of, other, send, take_from, waiting};
-ghost use Rattle.aux_relay.specs.History.{AreRelayed, Reply, texts_given, held_count, next_text, texts_taken, text_answer};
-ghost use Rattle.aux_relay.specs.Queues.{HoldUntaken, Queues, Relays, replies_among};
+ghost use Rattle.aux_relay.specs.History.{AreRelayed, Reply, texts_given, untaken_count, next_text, texts_taken, text_answer};
+ghost use Rattle.aux_relay.specs.Queues.{AreUntaken, Queues, Relays, replies_among};
 ghost use Rattle.aux_relay.specs.Worked.{one_taken, replied, three_sent, two_taken};
 
 use aux_words::{fields_are_as_written, numbers_are_as_written};
@@ -40,19 +40,19 @@ pub fn what_is_taken_was_given()
 /// Whatever happens to a relay that held nothing, its replies are the relay's. The call does nothing.
 pub fn replies_are_relayed()
     ensures { (events : List Event) (end : Queues) → IsReplierRun (λ old party new. new ≡ old) Relays [] events end
-        → AreRelayed (replies_among events) × HoldUntaken end (replies_among events) }
+        → AreRelayed (replies_among events) × AreUntaken end (replies_among events) }
 {}
 
-/// Replies as they were worked by hand: what waits for a user, what it takes, and how many texts are held. The call does
+/// Replies as they were worked by hand: what waits for a user, what it takes, and how many texts are left. The call does
 /// nothing.
 pub fn replies_as_worked()
-    ensures held { held_count three_sent ≡ 3 }
+    ensures untaken { untaken_count three_sent ≡ 3 }
     ensures first { next_text 1001 1002 three_sent ≡ Some (codes "A") }
     ensures from_another { next_text 1003 1002 three_sent ≡ Some (codes "B") }
     ensures not_back { next_text 1002 1001 three_sent ≡ None }
     ensures one_glyph { text_answer (Some (codes "A")) ≡ line_answer (codes "A") }
     ensures second { next_text 1001 1002 one_taken ≡ Some (codes "C") }
-    ensures one_less { held_count one_taken ≡ 2 }
+    ensures one_less { untaken_count one_taken ≡ 2 }
     ensures none_left { next_text 1001 1002 two_taken ≡ None }
     ensures none { text_answer None ≡ no_line }
     ensures still_there { next_text 1003 1002 two_taken ≡ Some (codes "B") }

@@ -4,7 +4,7 @@ ghost use Rattle.apl_arrays.specs.Limits.{most_elements};
 ghost use Rattle.auxiliaries.specs.Protocol.{no_line, line_answer};
 ghost use Rattle.aux_relay.specs.Changes.{DoesRequest, Sends, TakesText, TellsSenders};
 ghost use Rattle.aux_relay.specs.Request.{request_of};
-ghost use Rattle.aux_relay.specs.Queues.{HoldUntaken, Relays};
+ghost use Rattle.aux_relay.specs.Queues.{AreUntaken, Relays};
 
 use crate::queues::{Queues, drop_text, first_text, give, senders};
 use crate::request::{Request, request_of};
@@ -47,7 +47,7 @@ impl Relay {
     /// A relay that holds no texts.
     pub fn new(alloc: Global) -> Self
         ensures empty { result ≡ [] }
-        ensures nothing_yet { HoldUntaken result [] }
+        ensures nothing_yet { AreUntaken result [] }
     {
         Relay {
             alloc,

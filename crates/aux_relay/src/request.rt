@@ -7,7 +7,7 @@ ghost use Rattle.aux_relay.specs.Plain.{plain_request};
 use apl_arrays::{Array, FIRST_USER, Glyph, ItemsRef, LAST_USER};
 use aux_words::{behind_word, cut_at_blank, number_of};
 
-/// A request of the relay: a text for a user, the next text of a user, or a question who has sent texts.
+/// A request of the relay: a text for a user, the next text of a user, or who has sent texts.
 #[derive(Drop)]
 pub(crate) enum Request<'a> {
     Send(u32, &'a [Glyph]),
@@ -69,7 +69,7 @@ fn take_in(glyphs: &[Glyph]) -> Request<'_>
     }
 }
 
-// The question, where nothing stands behind its word.
+// The request, where nothing stands behind its word.
 fn waiting_in(glyphs: &[Glyph]) -> Request<'_>
     ensures value { plain_request result ≡ waiting_in glyphs.now }
     ensures short { HasTextUpTo (length glyphs.now) (plain_request result) }

@@ -7,11 +7,11 @@ use Rattle.apl_io.proofs.PlaceLemmas.{both_keep, read_keeps, same_places, write_
 use Rattle.auxiliaries.specs.Request.{request_of}
 use Rattle.auxiliaries.specs.Protocol.{Step, answers, reads, replaces, protocol_step}
 use Rattle.auxiliaries.specs.Run.{Event, began, answered, IsReplierRun}
-use Rattle.auxiliaries.specs.Served.{Served, Takes, Replies, forgotten}
+use Rattle.auxiliaries.specs.Served.{Served, TakesStep, Replies, forgotten}
 
 module _ {T : Type 0} (told : T → Option (Told (List ℕ))) (faults : T → ℕ) where
   -- a step
-  taken_keeps : (s : Step) (old : Served T) (answer : PlainArray) (new : Served T) → Takes told faults s old answer new → KeepsPlaces (told old.store) (told new.store)
+  taken_keeps : (s : Step) (old : Served T) (answer : PlainArray) (new : Served T) → TakesStep told faults s old answer new → KeepsPlaces (told old.store) (told new.store)
   taken_keeps (answers value state) old answer new takes =
       subst (λ (store : T). KeepsPlaces (told old.store) (told store)) (sym (ap (λ (served : Served T). served.store) takes.1)) (same_places (told old.store))
   taken_keeps (reads name) old answer new takes =

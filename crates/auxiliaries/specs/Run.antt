@@ -9,11 +9,11 @@ pub data Event : Type 0 where
 
 module _ {S : Type 0} (forgets : S → ℕ → S → Type 0) (replies : S → ℕ → PlainArray → PlainArray → S → Type 0) where
   -- one event leads from one state to another
-  abbrev pub Leads : Event → S → S → Type 0
-  Leads (began party) before after = forgets before party after
-  Leads (answered party value answer) before after = replies before party value answer after
+  abbrev pub EventLeads : Event → S → S → Type 0
+  EventLeads (began party) before after = forgets before party after
+  EventLeads (answered party value answer) before after = replies before party value answer after
 
   -- these events, the newest first, lead from the state at the start to the one at the end
   abbrev pub IsReplierRun : S → List Event → S → Type 0
   IsReplierRun start [] end = end ≡ start
-  IsReplierRun start (event ∷ earlier) end = (before : S) × IsReplierRun start earlier before × Leads event before end
+  IsReplierRun start (event ∷ earlier) end = (before : S) × IsReplierRun start earlier before × EventLeads event before end

@@ -35,14 +35,14 @@ module _ {T : Type 0} (told : T → Option (Told (List ℕ))) (faults : T → �
     pub after : AfterReplace reply old.state answer new.state
 
   -- a step with its answer: without a call of the store, or with one
-  abbrev pub Takes : Step → Served T → PlainArray → Served T → Type 0
-  Takes (answers value state) old answer new = (answer ≡ value) × (new ≡ record { store = old.store; state = state })
-  Takes (reads name) old answer new = IsReadStep old name answer new
-  Takes (replaces name bytes) old answer new = IsReplaceStep old name bytes answer new
+  abbrev pub TakesStep : Step → Served T → PlainArray → Served T → Type 0
+  TakesStep (answers value state) old answer new = (answer ≡ value) × (new ≡ record { store = old.store; state = state })
+  TakesStep (reads name) old answer new = IsReadStep old name answer new
+  TakesStep (replaces name bytes) old answer new = IsReplaceStep old name bytes answer new
 
   -- the answer to a value
   abbrev pub Replies : Served T → PlainArray → PlainArray → Served T → Type 0
-  Replies old value answer new = Takes (protocol_step (request_of value) old.state) old answer new
+  Replies old value answer new = TakesStep (protocol_step (request_of value) old.state) old answer new
 
 -- the protocol begins anew
 abbrev pub forgotten : {T : Type 0} → Served T → Served T

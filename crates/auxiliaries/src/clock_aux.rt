@@ -6,7 +6,7 @@ use apl_arrays::{Array, ItemsRef, WantOfMemory};
 use apl_io::Clock;
 use std::marker::Model;
 
-/// The answer to a value that is no question.
+/// The answer to a value that is no request.
 const REFUSED: i64 = -1;
 
 /// The answer where the clock failed.

@@ -9,6 +9,7 @@ mod replier;
 mod request;
 mod text_aux;
 mod text_state;
+mod threads;
 
 pub use clock_aux::ClockAux;
 pub use laws::{
@@ -17,3 +18,4 @@ pub use laws::{
 };
 pub use replier::Replier;
 pub use text_aux::TextAux;
+pub use threads::auxiliaries_may_cross_threads;

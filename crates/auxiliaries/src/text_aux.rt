@@ -7,7 +7,7 @@ ghost use Rattle.auxiliaries.specs.File.{most_file_bytes};
 ghost use Rattle.line_text.specs.Lines.{line_text};
 ghost use Rattle.auxiliaries.specs.Plain.{plain_state, code_number, HasShortLines};
 ghost use Rattle.auxiliaries.specs.Protocol.{AfterRead, answers, reading, writing, code, step_read, step_next, step_write, step_put, step_done};
-ghost use Rattle.auxiliaries.specs.Served.{Replies, Takes, IsReadStep, IsReplaceStep, forgotten, KeepsFiles};
+ghost use Rattle.auxiliaries.specs.Served.{Replies, TakesStep, IsReadStep, IsReplaceStep, forgotten, KeepsFiles};
 
 use crate::Replier;
 use crate::answer::{Code, line_answer, no_line};
@@ -89,7 +89,7 @@ impl<T: TextStore> TextAux<T> {
 
     // `READ name`.
     fn read(&mut self, name: &[Glyph]) -> Result<Array, WantOfMemory>
-        ensures ok { IfOk result (λ answer. Takes T.told T.faults (step_read name.now self.old.state) self.old answer self.new) }
+        ensures ok { IfOk result (λ answer. TakesStep T.told T.faults (step_read name.now self.old.state) self.old answer self.new) }
         ensures state { OnErr result (self.new.state ≡ self.old.state) }
         ensures files { OnErr result (KeepsFiles (T.told self.old.store) (T.told self.new.store)) }
         ensures counted { T.faults self.old.store ≤ T.faults self.new.store }
@@ -118,7 +118,7 @@ impl<T: TextStore> TextAux<T> {
 
     // `NEXT`.
     fn next(&mut self) -> Result<Array, WantOfMemory>
-        ensures ok { IfOk result (λ answer. Takes T.told T.faults (step_next self.old.state) self.old answer self.new) }
+        ensures ok { IfOk result (λ answer. TakesStep T.told T.faults (step_next self.old.state) self.old answer self.new) }
         ensures err { OnErr result (self.new ≡ self.old) }
     {
         match &mut self.state {
@@ -129,7 +129,7 @@ impl<T: TextStore> TextAux<T> {
 
     // `WRITE name`.
     fn write(&mut self, name: &[Glyph]) -> Result<Array, WantOfMemory>
-        ensures ok { IfOk result (λ answer. Takes T.told T.faults (step_write name.now self.old.state) self.old answer self.new) }
+        ensures ok { IfOk result (λ answer. TakesStep T.told T.faults (step_write name.now self.old.state) self.old answer self.new) }
         ensures err { OnErr result (self.new ≡ self.old) }
     {
         if self.state.is_writing() {
@@ -153,7 +153,7 @@ impl<T: TextStore> TextAux<T> {
 
     // `PUT text`.
     fn put(&mut self, text: &[Glyph]) -> Result<Array, WantOfMemory>
-        ensures ok { IfOk result (λ answer. Takes T.told T.faults (step_put text.now self.old.state) self.old answer self.new) }
+        ensures ok { IfOk result (λ answer. TakesStep T.told T.faults (step_put text.now self.old.state) self.old answer self.new) }
         ensures err { OnErr result (self.new ≡ self.old) }
     {
         match &mut self.state {
@@ -164,7 +164,7 @@ impl<T: TextStore> TextAux<T> {
 
     // `DONE`.
     fn done(&mut self) -> Result<Array, WantOfMemory>
-        ensures ok { IfOk result (λ answer. Takes T.told T.faults (step_done self.old.state) self.old answer self.new) }
+        ensures ok { IfOk result (λ answer. TakesStep T.told T.faults (step_done self.old.state) self.old answer self.new) }
         ensures state { OnErr result (self.new.state ≡ self.old.state) }
         ensures files { OnErr result (KeepsFiles (T.told self.old.store) (T.told self.new.store)) }
         ensures counted { T.faults self.old.store ≤ T.faults self.new.store }

@@ -26,23 +26,23 @@ use Rattle.bundle_text.proofs.Kept.{text_push}
 use Rattle.bundle_text.proofs.Walks.{SoundFrom, after}
 
 -- lines that lead from one draft to another
-pub record Leads (draft : PlainDraft) (lines : List PlainLine) (next : PlainDraft) : Type 0 where
+pub record DraftLeads (draft : PlainDraft) (lines : List PlainLine) (next : PlainDraft) : Type 0 where
   pub sound : SoundFrom draft lines
   pub there : after draft lines ≡ next
 
-nowhere : (draft : PlainDraft) → Leads draft [] draft
+nowhere : (draft : PlainDraft) → DraftLeads draft [] draft
 nowhere draft = record { sound = tt; there = refl }
 
-leads_first : (draft next : PlainDraft) (line : PlainLine) (lines : List PlainLine) → IsSound draft line → Leads (with_line draft line) lines next → Leads draft (line ∷ lines) next
+leads_first : (draft next : PlainDraft) (line : PlainLine) (lines : List PlainLine) → IsSound draft line → DraftLeads (with_line draft line) lines next → DraftLeads draft (line ∷ lines) next
 leads_first draft next line lines sound more = record { sound = (sound, more.sound); there = more.there }
 
-leads_on : (draft middle next : PlainDraft) (lines more : List PlainLine) → Leads draft lines middle → Leads middle more next → Leads draft (lines ++ more) next
-leads_on draft middle next [] more a b = subst (λ some. Leads some more next) (sym a.there) b
+leads_on : (draft middle next : PlainDraft) (lines more : List PlainLine) → DraftLeads draft lines middle → DraftLeads middle more next → DraftLeads draft (lines ++ more) next
+leads_on draft middle next [] more a b = subst (λ some. DraftLeads some more next) (sym a.there) b
 leads_on draft middle next (line ∷ lines) more a b =
     leads_first draft next line (lines ++ more) a.sound.0 (leads_on (with_line draft line) middle next lines more (record { sound = a.sound.1; there = a.there }) b)
 
-leads_to : (draft next other : PlainDraft) (lines : List PlainLine) → Leads draft lines next → next ≡ other → Leads draft lines other
-leads_to draft next other lines a e = subst (Leads draft lines) e a
+leads_to : (draft next other : PlainDraft) (lines : List PlainLine) → DraftLeads draft lines next → next ≡ other → DraftLeads draft lines other
+leads_to draft next other lines a e = subst (DraftLeads draft lines) e a
 
 both_true : (a b : Bool) → a ≡ true → b ≡ true → (a && b) ≡ true
 both_true a b p q = rw (p, q) refl
@@ -53,7 +53,7 @@ abbrev at : List PlainUser → List ℕ → List PlainFile → List ℤ → Plai
 at users turned files read section = record { users = users; order = turned; files = files; clock = read; section = section }
 
 user_lines_lead : (users : List PlainUser) (turned : List ℕ) (files : List PlainFile) (read : List ℤ) (number : ℕ) (front lines : List (List ℕ)) → length front + length lines ≤ most_user_lines → All IsContent lines
-    → Leads (at users turned files read (of_user (record { number = number; lines = front }))) (map (λ line. input line) lines) (at users turned files read (of_user (record { number = number; lines = front ++ lines })))
+    → DraftLeads (at users turned files read (of_user (record { number = number; lines = front }))) (map (λ line. input line) lines) (at users turned files read (of_user (record { number = number; lines = front ++ lines })))
 user_lines_lead users turned files read number front [] few each =
     leads_to _ _ _ [] (nowhere (at users turned files read (of_user (record { number = number; lines = front })))) (ap (λ (all : List (List ℕ)). at users turned files read (of_user (record { number = number; lines = all }))) (sym (append-nil front)))
 user_lines_lead users turned files read number front (line ∷ lines) few each =
@@ -69,7 +69,7 @@ user_lines_lead users turned files read number front (line ∷ lines) few each =
     leads_first here _ (input line) (map (λ l. input l) lines) sound (leads_to _ _ _ (map (λ l. input l) lines) more (ap (λ (all : List (List ℕ)). at users turned files read (of_user (record { number = number; lines = all }))) (append_assoc front (line ∷ []) lines)))
 
 file_lines_lead : (users : List PlainUser) (turned : List ℕ) (files : List PlainFile) (read : List ℤ) (name : List ℕ) (bytes : List ℕ) (lines : List (List ℕ)) → All IsContent lines
-    → Leads (at users turned files read (of_file (record { name = name; bytes = bytes }))) (map (λ line. input line) lines) (at users turned files read (of_file (record { name = name; bytes = bytes ++ lines_text lines })))
+    → DraftLeads (at users turned files read (of_file (record { name = name; bytes = bytes }))) (map (λ line. input line) lines) (at users turned files read (of_file (record { name = name; bytes = bytes ++ lines_text lines })))
 file_lines_lead users turned files read name bytes [] each =
     leads_to _ _ _ [] (nowhere (at users turned files read (of_file (record { name = name; bytes = bytes })))) (ap (λ (all : List ℕ). at users turned files read (of_file (record { name = name; bytes = all }))) (sym (append-nil bytes)))
 file_lines_lead users turned files read name bytes (line ∷ lines) each =
@@ -82,7 +82,7 @@ file_lines_lead users turned files read name bytes (line ∷ lines) each =
 -- what a part of a page leads to: a draft that says this, in such a section
 pub record Reach (draft : PlainDraft) (lines : List PlainLine) (ok : PlainSection → Type 0) (bundle : PlainBundle) : Type 0 where
   pub next : PlainDraft
-  pub leads : Leads draft lines next
+  pub leads : DraftLeads draft lines next
   pub says : bundle_of next ≡ bundle
   pub section : ok next.section
 
@@ -95,13 +95,13 @@ IsOpen section = is_at_end section ≡ false
 reach_to : (draft : PlainDraft) (lines : List PlainLine) (ok : PlainSection → Type 0) (bundle other : PlainBundle) → Reach draft lines ok bundle → bundle ≡ other → Reach draft lines ok other
 reach_to draft lines ok bundle other r e = subst (Reach draft lines ok) e r
 
-reach_on : (draft middle : PlainDraft) (lines more : List PlainLine) (ok : PlainSection → Type 0) (bundle : PlainBundle) → Leads draft lines middle → Reach middle more ok bundle → Reach draft (lines ++ more) ok bundle
+reach_on : (draft middle : PlainDraft) (lines more : List PlainLine) (ok : PlainSection → Type 0) (bundle : PlainBundle) → DraftLeads draft lines middle → Reach middle more ok bundle → Reach draft (lines ++ more) ok bundle
 reach_on draft middle lines more ok bundle first r = record { next = r.next; leads = leads_on draft middle r.next lines more first r.leads; says = r.says; section = r.section }
 
 -- users
 
 user_leads : (users : List PlainUser) (section : PlainSection) (one : PlainUser) → takes_user section one.number ≡ true → length (users_with users section) < most_users → IsUser one
-    → Leads (at users [] [] [] section) (user_section one) (at (users_with users section) [] (files_with [] section) [] (of_user one))
+    → DraftLeads (at users [] [] [] section) (user_section one) (at (users_with users section) [] (files_with [] section) [] (of_user one))
 user_leads users section one takes room is =
     let here = at users [] [] [] section in
     let sound : IsSound here (user one.number) = record { form = is.number; place = takes; parties = refl; limits = lt-ltb _ _ room } in
@@ -160,7 +160,7 @@ takes_first_file readings name takes = absurd (false≢true takes)
 takes_first_file ended name takes = absurd (false≢true takes)
 
 file_leads : (draft : PlainDraft) (sheet : Sheet) → takes_file draft.section sheet.name ≡ true → length (files_of draft) < most_files → IsBundleLine (file sheet.name) → All IsContent sheet.lines
-    → Leads draft (file_section sheet) (at (users_so_far draft) draft.order (files_of draft) draft.clock (of_file (file_of sheet)))
+    → DraftLeads draft (file_section sheet) (at (users_so_far draft) draft.order (files_of draft) draft.clock (of_file (file_of sheet)))
 file_leads draft sheet takes room form short =
     let sound : IsSound draft (file sheet.name) = record { form = form; place = takes; parties = refl; limits = lt-ltb _ _ room } in
     leads_first draft _ (file sheet.name) (map (λ l. input l) sheet.lines) sound (file_lines_lead (users_so_far draft) draft.order (files_of draft) draft.clock sheet.name [] sheet.lines short)
@@ -198,7 +198,7 @@ all_files_reach draft [] takes none ascend few named short = record {
 all_files_reach draft (sheet ∷ sheets) takes none ascend few named short =
     let first = file_leads draft sheet (takes_first_file draft.section sheet.name takes) (omega (arith, ap length none)) (All-head IsNamed sheet sheets named) (All-head IsShort sheet sheets short) in
     let rest = files_reach (users_so_far draft) draft.order [] draft.clock (file_of sheet) sheets ascend (omega arith) (All-tail IsNamed sheet sheets named) (All-tail IsShort sheet sheets short) in
-    let at_none = subst (λ (files : List PlainFile). Leads draft (file_section sheet) (at (users_so_far draft) draft.order files draft.clock (of_file (file_of sheet)))) none first in
+    let at_none = subst (λ (files : List PlainFile). DraftLeads draft (file_section sheet) (at (users_so_far draft) draft.order files draft.clock (of_file (file_of sheet)))) none first in
     reach_on draft (at (users_so_far draft) draft.order [] draft.clock (of_file (file_of sheet))) (file_section sheet) (flat_map file_section sheets) IsOpen _ at_none rest
 
 -- readings

@@ -58,28 +58,28 @@ read_end line = do
   Ok (end_heading, rest)
 
 -- u, o, f and c
-abbrev pub letter_u : ℕ
-letter_u = 117
+abbrev pub small_u : ℕ
+small_u = 117
 
-abbrev pub letter_o : ℕ
-letter_o = 111
+abbrev pub small_o : ℕ
+small_o = 111
 
-abbrev pub letter_f : ℕ
-letter_f = 102
+abbrev pub small_f : ℕ
+small_f = 102
 
-abbrev pub letter_c : ℕ
-letter_c = 99
+abbrev pub small_c : ℕ
+small_c = 99
 
 -- the heading of a file or of readings, by the letter with which its word begins, or the end
 unfoldable pub read_later_heading : Reader PlainHeading
 read_later_heading line =
-    if begins_with letter_f line then read_file line
-    else if begins_with letter_c line then read_readings line
+    if begins_with small_f line then read_file line
+    else if begins_with small_c line then read_readings line
     else read_end line
 
 -- a heading, by the letter with which its word begins
 unfoldable pub read_heading : Reader PlainHeading
 read_heading line =
-    if begins_with letter_u line then read_user line
-    else if begins_with letter_o line then read_turns line
+    if begins_with small_u line then read_user line
+    else if begins_with small_o line then read_turns line
     else read_later_heading line

@@ -10,6 +10,7 @@ mod number;
 mod opening;
 mod prompt;
 mod showing;
+mod threads;
 
 pub use editor::{Editor, Fed};
 pub use laws::{
@@ -18,3 +19,4 @@ pub use laws::{
 };
 pub use opening::Opened;
 pub use prompt::Prompt;
+pub use threads::editors_may_cross_threads;

@@ -7,7 +7,7 @@ use Rattle.apl_io.specs.declared.store_error.StoreError.{StoreError}
 use Rattle.apl_io.specs.declared.store_error.StoreError.TheVariants.{Failed, WantOfMemory}
 use Rattle.sv_events.specs.Answer.{PlainAnswer}
 use Rattle.sv_events.specs.declared.event.Act.{Act}
-use Rattle.ws_commands.specs.Shelf.{CountsFaults, FollowsCall, IsCall, Takes}
+use Rattle.ws_commands.specs.Shelf.{CountsFaults, FollowsCall, IsCall, TakesStep}
 use Rattle.ws_commands.specs.Step.{Step, does, reads, writes, removes, lists}
 use Rattle.ws_commands.specs.Todo.{PlainTodo, faulted}
 use Rattle.apl_terminal.specs.Terminal.{PlainTerminal}
@@ -56,7 +56,7 @@ module _ {K : Type 0} (told : K → Option (Told (ℕ × List ℕ))) (faults : K
     called_so h = answered h.answer h.told_answer h.fault h.after
 
   -- so it is with every step
-  pub stepped : (line : List ℕ) (step : Step) (old : K) (todo : PlainTodo) (new : K) → Takes told faults user step old todo new → IsStepped line step todo old new
+  pub stepped : (line : List ℕ) (step : Step) (old : K) (todo : PlainTodo) (new : K) → TakesStep told faults user step old todo new → IsStepped line step todo old new
   stepped line (does wanted) old todo new h = record {
     more = [];
     run = h.1;

@@ -19,7 +19,7 @@ use case_tables::{Tally, run_calls};
 pub fn all_calls(rt: &HostRuntime) -> Result<Tally> {
     let mut tally = run_calls(rt, "sv_access", &Access)?;
     tally.add(run_calls(rt, "sv_events", &EventCalls)?);
-    tally.add(run_calls(rt, "sv_story", &StoryCalls)?);
+    tally.add(run_calls(rt, "sv_kept", &StoryCalls)?);
     tally.add(run_calls(rt, "sv_offers", &OfferCalls)?);
     tally.add(run_calls(rt, "sv_core", &CoreCalls)?);
     Ok(tally)

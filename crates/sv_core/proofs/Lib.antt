@@ -3,6 +3,7 @@ mod CellPlaces
 mod DueLemmas
 mod EndingLemmas
 mod GoingLemmas
+mod HistoryLemmas
 mod HoldingLemmas
 mod Kept
 mod MakingLemmas

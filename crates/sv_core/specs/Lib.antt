@@ -1,5 +1,6 @@
 pub mod Core
 pub mod Due
+pub mod Histories
 pub mod Invariant
 pub mod NoControl
 pub mod Retry

@@ -12,7 +12,7 @@ use Rattle.sv_turn.specs.declared.view.Account.{Account}
 use Rattle.sv_turn.specs.declared.view.View.{View}
 use Rattle.sv_turn.specs.Journals.{places_of, Begins}
 use Rattle.sv_turn.specs.Views.{weight_of, tickets_of, turns_of, tickets, turns}
-use Rattle.sv_turn.specs.Order.{TurnCourse, words_of, Queues, Stands, Fits, InOrder}
+use Rattle.sv_turn.specs.Order.{TurnCourse, words_of, TicketFits, IsAccountOf, Fits, InOrder}
 use Rattle.sv_turn.proofs.Sums.{sum_set, sum_at}
 use Rattle.sv_turn.proofs.Places.{begins_then}
 
@@ -30,20 +30,20 @@ pub wrapped : (n : ℕ) → (n % 2 ^ 64 + 1) % 2 ^ 64 ≡ (n + 1) % 2 ^ 64
 wrapped n = omega arith
 
 module _ {E : Type 0} where
-  pub queues_on : (c d : TurnCourse E) (seat : ℕ) (known : List E) (stage : SeatStage)
-      → ((ticket : ℕ) → Queues c seat known (Waits ticket) → Queues d seat known (Waits ticket))
-      → ((ticket : ℕ) → Queues c seat known (Holds ticket) → Queues d seat known (Holds ticket))
-      → Queues c seat known stage → Queues d seat known stage
-  queues_on c d seat known Away waits holds q = tt
-  queues_on c d seat known (Waits ticket) waits holds q = waits ticket q
-  queues_on c d seat known (Holds ticket) waits holds q = holds ticket q
+  pub ticket_fits_on : (c d : TurnCourse E) (seat : ℕ) (known : List E) (stage : SeatStage)
+      → ((ticket : ℕ) → TicketFits c seat known (Waits ticket) → TicketFits d seat known (Waits ticket))
+      → ((ticket : ℕ) → TicketFits c seat known (Holds ticket) → TicketFits d seat known (Holds ticket))
+      → TicketFits c seat known stage → TicketFits d seat known stage
+  ticket_fits_on c d seat known Away waits holds q = tt
+  ticket_fits_on c d seat known (Waits ticket) waits holds q = waits ticket q
+  ticket_fits_on c d seat known (Holds ticket) waits holds q = holds ticket q
 
-  pub away_queues : (c : TurnCourse E) (seat : ℕ) (known : List E) (stage : SeatStage) → stage ≡ Away → Queues c seat known stage
-  away_queues c seat known stage away = subst (Queues c seat known) (sym away) tt
+  pub away_fits : (c : TurnCourse E) (seat : ℕ) (known : List E) (stage : SeatStage) → stage ≡ Away → TicketFits c seat known stage
+  away_fits c seat known stage away = subst (TicketFits c seat known) (sym away) tt
 
 module _ {E : Type 0} (party_of : E → ℕ) where
   pub stands_on : (c d : TurnCourse E) (from to : ℕ) (a : Account E) → c.top ≤ d.top → d.owner a.party ≡ to → places_of party_of a.party d.journal ≡ places_of party_of a.party c.journal → Begins c.journal d.journal
-      → Stands party_of c from a → Stands party_of d to a
+      → IsAccountOf party_of c from a → IsAccountOf party_of d to a
   stands_on c d from to a top owner places begins h = record {
     named = h.named;
     numbered = (let n = h.numbered in omega arith);
@@ -54,17 +54,17 @@ module _ {E : Type 0} (party_of : E → ℕ) where
 
   pub carry : (members : List ℕ) (c d : TurnCourse E) (seat : ℕ) (v : View E)
       → (v.maker ≡ true → seat ≡ c.maker → v.last ≡ c.top → (seat ≡ d.maker) × (v.last ≡ d.top))
-      → ((a : Account E) → Stands party_of c seat a → Stands party_of d seat a)
-      → (Queues c seat v.account.known v.stage → Queues d seat v.account.known v.stage)
+      → ((a : Account E) → IsAccountOf party_of c seat a → IsAccountOf party_of d seat a)
+      → (TicketFits c seat v.account.known v.stage → TicketFits d seat v.account.known v.stage)
       → Fits party_of members c seat v → Fits party_of members d seat v
-  carry members c d seat v made stands queues fit = record {
+  carry members c d seat v made stands ticketed fit = record {
     made = λ m. let h = fit.made m in made m h.0 h.1;
     members_kept = fit.members_kept;
     heavy = fit.heavy;
     seated = fit.seated;
     mine = λ p. stands v.account (fit.mine p);
-    others = All-weaker (λ a. Stands party_of c seat a × (a.party ≢ v.account.party)) (λ a. Stands party_of d seat a × (a.party ≢ v.account.party)) (λ a h. (stands a h.0, h.1)) v.kept fit.others;
-    queues = queues fit.queues;
+    others = All-weaker (λ a. IsAccountOf party_of c seat a × (a.party ≢ v.account.party)) (λ a. IsAccountOf party_of d seat a × (a.party ≢ v.account.party)) (λ a h. (stands a h.0, h.1)) v.kept fit.others;
+    ticketed = ticketed fit.ticketed;
   }
 
 module _ {S E : Type 0} (entries : S → List E) (members_of : S → List ℕ) (party_of : E → ℕ) (parties : ℕ) (members : List ℕ) where

@@ -10,7 +10,7 @@ use Rattle.sv_turn.specs.declared.view.SeatStage.TheVariants.{Away, Waits, Holds
 use Rattle.sv_turn.specs.declared.view.Account.{Account}
 use Rattle.sv_turn.specs.declared.view.View.{View}
 use Rattle.sv_turn.specs.Views.{weight_of, turns_of, tickets, turns, accounts_of}
-use Rattle.sv_turn.specs.Order.{Stands, IsTold, InOrder}
+use Rattle.sv_turn.specs.Order.{IsAccountOf, IsTold, InOrder}
 use Rattle.sv_turn.proofs.Sums.{sum_apart, sum_found}
 
 pub turns_below : (stage : SeatStage) → turns stage ≤ tickets stage
@@ -39,11 +39,11 @@ module _ {S E : Type 0} (entries : S → List E) (members_of : S → List ℕ) (
   ended seat v words slots away whole somebody final =
       let s = final.0 in let r = final.1.0 in let at = final.1.1 in let c = r.course in let fit = r.each seat v at in
       let home = r.home (all_home s r seat v at away whole (sum_by turns_of s.views) (λ _. sum_by turns_of s.views)) in let y = home.0 in
-      let told : (a : Account E) → Stands party_of c seat a → IsTold party_of (entries y) a =
+      let told : (a : Account E) → IsAccountOf party_of c seat a → IsTold party_of (entries y) a =
       λ a h. subst (λ (z : List E). IsTold party_of z a) (sym home.2) (h.places, h.known) in (
         y,
         final.4 0 (Some y) (ap (λ (hs : List (maybe.Option (Option S))). get_elem? hs 0) home.1),
         home.3,
         All-cons (IsTold party_of (entries y)) v.account v.kept (told v.account (fit.mine somebody))
-            (All-weaker (λ a. Stands party_of c seat a × (a.party ≢ v.account.party)) (IsTold party_of (entries y)) (λ a h. told a h.0) v.kept fit.others),
+            (All-weaker (λ a. IsAccountOf party_of c seat a × (a.party ≢ v.account.party)) (IsTold party_of (entries y)) (λ a h. told a h.0) v.kept fit.others),
       )

@@ -6,3 +6,5 @@ pub mod Ending
 pub mod Gathering
 pub mod Turns
 pub mod PlaceLaws
+pub mod EntryAt
+pub mod LaterEntries

@@ -26,13 +26,13 @@ module _ {E : Type 0} where
   words_of c = (c.taken % 2 ^ 64) ∷ (c.served % 2 ^ 64) ∷ (length c.journal % 2 ^ 64) ∷ c.top ∷ []
 
   -- a ticket was taken, was not yet served, and is the seat's alone; the seat that has its turn knows the whole journal
-  abbrev pub Queues : TurnCourse E → ℕ → List E → SeatStage → Type 0
-  Queues c seat known Away = Unit {0}
-  Queues c seat known (Waits ticket) = (c.served ≤ ticket) × (ticket < c.taken) × (c.holder ticket ≡ seat)
-  Queues c seat known (Holds ticket) = (ticket ≡ c.served) × (ticket < c.taken) × (c.holder ticket ≡ seat) × (known ≡ c.journal)
+  abbrev pub TicketFits : TurnCourse E → ℕ → List E → SeatStage → Type 0
+  TicketFits c seat known Away = Unit {0}
+  TicketFits c seat known (Waits ticket) = (c.served ≤ ticket) × (ticket < c.taken) × (c.holder ticket ≡ seat)
+  TicketFits c seat known (Holds ticket) = (ticket ≡ c.served) × (ticket < c.taken) × (c.holder ticket ≡ seat) × (known ≡ c.journal)
 
   -- the party is the seat's alone, its places are all that the journal has of it, and the journal begins with what is known
-  pub record Stands (party_of : E → ℕ) (c : TurnCourse E) (seat : ℕ) (a : Account E) : Type 0 where
+  pub record IsAccountOf (party_of : E → ℕ) (c : TurnCourse E) (seat : ℕ) (a : Account E) : Type 0 where
     pub named : 0 < a.party
     pub numbered : a.party ≤ c.top
     pub owned : c.owner a.party ≡ seat
@@ -45,9 +45,9 @@ module _ {E : Type 0} where
     pub members_kept : 0 < v.weight → v.members ≡ members
     pub heavy : 0 < v.account.party → 0 < v.weight
     pub seated : tickets v.stage ≤ v.account.party
-    pub mine : 0 < v.account.party → Stands party_of c seat v.account
-    pub others : All (λ a. Stands party_of c seat a × (a.party ≢ v.account.party)) v.kept
-    pub queues : Queues c seat v.account.known v.stage
+    pub mine : 0 < v.account.party → IsAccountOf party_of c seat v.account
+    pub others : All (λ a. IsAccountOf party_of c seat a × (a.party ≢ v.account.party)) v.kept
+    pub ticketed : TicketFits c seat v.account.known v.stage
 
 -- the account has the places of its party in the journal, which begins with what it knows
 abbrev pub IsTold : {E : Type 0} → (E → ℕ) → List E → Account E → Type 0

@@ -24,8 +24,8 @@ module _ {E : Type 0} where
   party_and_places seat = (seat.party, seat.mine.items)
 
   -- what the seat knows of its party
-  abbrev pub account_of : Seat E → Account E
-  account_of seat = record { party = seat.party; places = seat.mine.items; known = known_of seat }
+  abbrev pub seat_account : Seat E → Account E
+  seat_account seat = record { party = seat.party; places = seat.mine.items; known = known_of seat }
 
   -- a closed seat can enter nothing
   abbrev pub IsClosed : Seat E → Type 0

@@ -15,8 +15,8 @@ use Rattle.sv_turn.specs.Views.{ticket_of}
 
 module _ {S E : Type 0} where
   -- the journal that the turn found, with its entry once it is counted
-  abbrev pub found_in : Turn S E → List E
-  found_in turn = turn.place.me.0.account.known
+  abbrev pub journal_in : Turn S E → List E
+  journal_in turn = turn.place.me.0.account.known
 
   -- the members that the turn found
   abbrev pub members_in : Turn S E → List ℕ
@@ -27,7 +27,7 @@ module _ {S E : Type 0} where
   table_in turn = turn.place.table_id
 
   -- the right to enter is out of its seat, with one part of the right to close; it has its turn at this table, and its state is out of the slot
-  pub record IsInside (table : TableId) (out : place.Seat (Option S) (View E)) (seat : Seat E) : Type 0 where
+  pub record IsInTurn (table : TableId) (out : place.Seat (Option S) (View E)) (seat : Seat E) : Type 0 where
     pub at_table : out.table_id ≡ table
     pub emptied : out.me.1 ≡ (0, None) ∷ []
     pub holds : out.me.0.stage ≡ Holds (ticket_of out.me.0.stage)
@@ -39,7 +39,7 @@ module _ {S E : Type 0} where
 
   -- the turn is as `enter` gave it, whatever was done to the state
   abbrev pub IsGiven : Turn S E → Type 0
-  IsGiven turn = IsInside turn.stile.now.table.shared.table_id turn.place turn.seat.now
+  IsGiven turn = IsInTurn turn.stile.now.table.shared.table_id turn.place turn.seat.now
 
   -- the turn with this state
   abbrev pub with_state : Turn S E → S → Turn S E

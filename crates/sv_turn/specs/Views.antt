@@ -25,36 +25,36 @@ ticket_of (Holds ticket) = ticket
 
 module _ {E : Type 0} where
   -- the account of a party that has seen nothing
-  abbrev pub opened : ℕ → Account E
-  opened party = record { party = party; places = []; known = [] }
+  abbrev pub new_account : ℕ → Account E
+  new_account party = record { party = party; places = []; known = [] }
 
   -- the maker, before it numbers anybody
   abbrev pub maker_of : ℕ → List ℕ → View E
-  maker_of parties members = record { maker = true; last = 0; weight = parties; members = members; account = opened 0; stage = Away; kept = [] }
+  maker_of parties members = record { maker = true; last = 0; weight = parties; members = members; account = new_account 0; stage = Away; kept = [] }
 
   -- the maker with so many parts of the right to close, after it numbered this party and before it numbers the next
-  abbrev pub making : ℕ → List ℕ → ℕ → View E
-  making weight members last = record { maker = true; last = last; weight = weight; members = members; account = opened 0; stage = Away; kept = [] }
+  abbrev pub maker_after : ℕ → List ℕ → ℕ → View E
+  maker_after weight members last = record { maker = true; last = last; weight = weight; members = members; account = new_account 0; stage = Away; kept = [] }
 
   -- a view that was joined into another
   abbrev pub spent : View E
-  spent = record { maker = false; last = 0; weight = 0; members = []; account = opened 0; stage = Away; kept = [] }
+  spent = record { maker = false; last = 0; weight = 0; members = []; account = new_account 0; stage = Away; kept = [] }
 
   -- the maker with a party
-  abbrev pub numbered : ℕ → View E → View E
-  numbered party v = record v { account = opened party; last = party }
+  abbrev pub numbered_view : ℕ → View E → View E
+  numbered_view party v = record v { account = new_account party; last = party }
 
   -- the maker after a split
   abbrev pub left_of : View E → View E
-  left_of v = record v { account = opened 0; weight = v.weight - 1 }
+  left_of v = record v { account = new_account 0; weight = v.weight - 1 }
 
   -- the seat that a split makes
   abbrev pub right_of : View E → View E
   right_of v = record { maker = false; last = 0; weight = 1; members = v.members; account = v.account; stage = Away; kept = [] }
 
   -- a seat that took in another
-  abbrev pub joined : View E → View E → View E
-  joined v w = record v { weight = v.weight + w.weight; kept = v.kept ++ w.account ∷ w.kept }
+  abbrev pub joined_view : View E → View E → View E
+  joined_view v w = record v { weight = v.weight + w.weight; kept = v.kept ++ w.account ∷ w.kept }
 
   -- the seat at this stage
   abbrev pub at_stage : SeatStage → View E → View E
@@ -65,8 +65,8 @@ module _ {E : Type 0} where
   holder_of ticket journal v = record v { stage = Holds ticket; account = record { party = v.account.party; places = v.account.places; known = journal } }
 
   -- the seat after its entry was counted, at this place
-  abbrev pub counted : ℕ → List E → View E → View E
-  counted place journal v = record v { account = record { party = v.account.party; places = v.account.places ++ place ∷ []; known = journal } }
+  abbrev pub counted_view : ℕ → List E → View E → View E
+  counted_view place journal v = record v { account = record { party = v.account.party; places = v.account.places ++ place ∷ []; known = journal } }
 
   -- its own account, and those that it took in
   abbrev pub accounts_of : View E → List (Account E)

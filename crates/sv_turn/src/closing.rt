@@ -4,7 +4,7 @@ ghost use Rattle.sv_turn.specs.declared.view.SeatStage.TheVariants.{Away};
 ghost use Rattle.sv_turn.specs.Journals.{places_of, Begins};
 ghost use Rattle.sv_turn.specs.Views.{accounts_of};
 ghost use Rattle.sv_turn.specs.Order.{IsTold};
-ghost use Rattle.sv_turn.specs.Seating.{IsSeatAt, IsClosed, BelongsTo, party_and_places, account_of, known_of, seats_given, start_members};
+ghost use Rattle.sv_turn.specs.Seating.{IsSeatAt, IsClosed, BelongsTo, party_and_places, seat_account, known_of, seats_given, start_members};
 
 use crate::order::{Order, Start};
 use crate::sitting::rise;
@@ -26,7 +26,7 @@ fn gather_next<S: History>(
     ensures table { place.new.table_id ≡ place.old.table_id }
     ensures place { (place.new.me.1 ≡ []) × (place.new.me.0.stage ≡ Away) × (0 < place.new.me.0.account.party) }
     ensures weight { place.new.me.0.weight ≡ place.old.me.0.weight + 1 }
-    ensures accounts { accounts_of place.new.me.0 ≡ accounts_of place.old.me.0 ++ account_of seat.old ∷ [] }
+    ensures accounts { accounts_of place.new.me.0 ≡ accounts_of place.old.me.0 ++ seat_account seat.old ∷ [] }
     ensures seat { IsClosed seat.new × (party_and_places seat.new ≡ party_and_places seat.old) }
 {
     gather(shared, place, rise(seat));
@@ -39,7 +39,7 @@ fn gather_first<S: History>(
     requires { (view : View S.Entry) × (seat.old.badge.views ≡ view ∷ []) }
     ensures place { (result.table_id ≡ seat.old.badge.table_id) × (result.me.1 ≡ []) × (result.me.0.stage ≡ Away) × (0 < result.me.0.account.party) }
     ensures weight { result.me.0.weight ≡ 1 }
-    ensures accounts { accounts_of result.me.0 ≡ account_of seat.old ∷ [] }
+    ensures accounts { accounts_of result.me.0 ≡ seat_account seat.old ∷ [] }
     ensures seat { IsClosed seat.new × (party_and_places seat.new ≡ party_and_places seat.old) }
 {
     rise(seat)
@@ -54,7 +54,7 @@ fn gather_all<S: History>(
     requires seats { (0 < length list.old.items) × All (IsSeatAt shared.now.table_id (S.members_of shared.now.key.state.value)) list.old.items }
     ensures place { (result.table_id ≡ shared.now.table_id) × (result.me.1 ≡ []) × (result.me.0.stage ≡ Away) × (0 < result.me.0.account.party) }
     ensures weight { result.me.0.weight ≡ length list.old.items }
-    ensures accounts { accounts_of result.me.0 ≡ map account_of list.old.items }
+    ensures accounts { accounts_of result.me.0 ≡ map seat_account list.old.items }
     ensures same { map party_and_places list.new.items ≡ map party_and_places list.old.items }
     ensures closed { All IsClosed list.new.items }
 {

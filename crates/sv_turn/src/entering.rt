@@ -5,7 +5,7 @@ ghost use Rattle.sv_turn.specs.declared.view.SeatStage.TheVariants.{Waits};
 ghost use Rattle.sv_turn.specs.Journals.{places_of, Begins};
 ghost use Rattle.sv_turn.specs.Plays.{IsHere};
 ghost use Rattle.sv_turn.specs.Seating.{BelongsTo, IsSeatAt, start_members, known_of};
-ghost use Rattle.sv_turn.specs.Turning.{found_in, members_in, table_in, IsGiven, LendsState};
+ghost use Rattle.sv_turn.specs.Turning.{journal_in, members_in, table_in, IsGiven, LendsState};
 
 use crate::sitting::{rise, settle};
 use crate::steps::{draw, look, put, release, take};
@@ -81,7 +81,7 @@ impl<S: History> Turnstile<S> {
         ensures begins { Begins (known_of seat.old) (S.entries result.state) }
         ensures mine { seat.old.mine.items ≡ places_of S.party_of seat.old.party (S.entries result.state) }
         ensures members { S.members_of result.state ≡ start_members S.members_of self.now }
-        ensures found { (found_in result ≡ S.entries result.state) × (members_in result ≡ start_members S.members_of self.now) × (table_in result ≡ self.now.table.shared.table_id) }
+        ensures found { (journal_in result ≡ S.entries result.state) × (members_in result ≡ start_members S.members_of self.now) × (table_in result ≡ self.now.table.shared.table_id) }
     {
         let mut place = rise(seat);
         let ticket = draw(&self.table.shared, &mut place);
@@ -109,10 +109,10 @@ impl<'a, S: History> Turn<'a, S> {
     /// Ends the turn, with the journal and the members as they were found.
     pub fn give_back(self)
         requires given { IsGiven self }
-        requires journal { S.entries self.state ≡ found_in self }
+        requires journal { S.entries self.state ≡ journal_in self }
         requires members { S.members_of self.state ≡ members_in self }
         ensures same { (self.exit.0.now.party ≡ self.entry.seat.now.party) × (self.exit.0.now.mine ≡ self.entry.seat.now.mine) }
-        ensures known { known_of self.exit.0.now ≡ found_in self.entry }
+        ensures known { known_of self.exit.0.now ≡ journal_in self.entry }
         ensures own { IsSeatAt (table_in self.entry) (members_in self.entry) self.exit.0.now }
     {
         let Turn {

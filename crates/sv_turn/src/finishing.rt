@@ -2,7 +2,7 @@
 ghost use Rattle.std.specs.Prelude.{◌≡◌, ◌+◌, ◌<◌, ◌≤◌, [], ◌∷◌, ◌++◌, Some, IsOk, OnErr, OnOk, length};
 ghost use Rattle.sv_turn.specs.Journals.{AddsOne};
 ghost use Rattle.sv_turn.specs.Seating.{IsSeatAt, IsClosed, known_of, spare_of};
-ghost use Rattle.sv_turn.specs.Turning.{found_in, members_in, table_in, IsGiven};
+ghost use Rattle.sv_turn.specs.Turning.{journal_in, members_in, table_in, IsGiven};
 
 use crate::sitting::settle;
 use crate::steps::{count, put, release};
@@ -51,7 +51,7 @@ impl<S: History> Turn<'_, S> {
     /// Ends the turn with one entry of the seat's party more, and keeps its place.
     pub fn finish(self)
         requires given { IsGiven self }
-        requires one { AddsOne S.party_of self.seat.now.party (found_in self) (S.entries self.state) }
+        requires one { AddsOne S.party_of self.seat.now.party (journal_in self) (S.entries self.state) }
         requires members { S.members_of self.state ≡ members_in self }
         requires room { 1 ≤ spare_of self.seat.now }
         ensures party { self.exit.0.now.party ≡ self.entry.seat.now.party }

@@ -18,7 +18,7 @@ mod turnstile;
 mod view;
 
 pub use history::History;
-pub use laws::places_law;
+pub use laws::{no_places_no_entries, places_law};
 pub use memory::WantOfMemory;
 pub use seat::Seat;
 pub use seats::Seats;

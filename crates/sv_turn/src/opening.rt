@@ -1,6 +1,6 @@
 //! Making a turnstile and its seats.
 ghost use Rattle.std.specs.Prelude.{◌≡◌, ◌+◌, ◌-◌, ◌^◌, ◌<◌, ◌≤◌, [], ◌∷◌, IfOk, Some, All, AllPairs, map, length, vec_len, vec_capacity};
-ghost use Rattle.sv_turn.specs.Views.{maker_of, making, Sits};
+ghost use Rattle.sv_turn.specs.Views.{maker_of, maker_after, Sits};
 ghost use Rattle.sv_turn.specs.Seating.{IsNew, BelongsTo, start_members, seats_given, known_of};
 
 use crate::order::{Order, Start};
@@ -79,10 +79,10 @@ fn seat_one<S: History>(
     party: u32,
 ) -> Seat<S::Entry>
     requires table { (place.old.table_id ≡ shared.now.table_id) × (shared.now.table_id.words ≡ 4) }
-    requires maker { place.old.me ≡ (making place.old.me.0.weight place.old.me.0.members place.old.me.0.last, []) }
+    requires maker { place.old.me ≡ (maker_after place.old.me.0.weight place.old.me.0.members place.old.me.0.last, []) }
     requires next { (1 < place.old.me.0.weight) × (place.old.me.0.last < party) }
     ensures table { place.new.table_id ≡ place.old.table_id }
-    ensures maker { place.new.me ≡ (making (place.old.me.0.weight - 1) place.old.me.0.members party, []) }
+    ensures maker { place.new.me ≡ (maker_after (place.old.me.0.weight - 1) place.old.me.0.members party, []) }
     ensures seat { IsNew place.old.table_id place.old.me.0.members result × (result.party ≡ party) }
 {
     number(shared, place, party);
@@ -98,7 +98,7 @@ fn seat_all<S: History>(
     mut list: Vec<Seat<S::Entry>>,
 ) -> Vec<Seat<S::Entry>>
     requires table { (place.table_id ≡ shared.now.table_id) × (shared.now.table_id.words ≡ 4) }
-    requires maker { place.me ≡ (making (length parties.now) place.me.0.members 0, []) }
+    requires maker { place.me ≡ (maker_after (length parties.now) place.me.0.members 0, []) }
     requires parties { (0 < length parties.now) × All (λ party. 0 < party) parties.now × AllPairs (λ party next. party < next) parties.now }
     requires room { (list.items ≡ []) × (length parties.now ≤ vec_capacity list) }
     ensures parties { map (λ seat. seat.party) result.items ≡ parties.now }

@@ -1,8 +1,8 @@
 //! The table that the seats share: its rule, and the names of its steps.
 //! The words are the tickets taken, the tickets served, the length of the journal and the last party numbered. The slot holds the state.
-ghost use Rattle.sv_turn.specs.Views.{maker_of, spent, left_of, right_of, joined};
+ghost use Rattle.sv_turn.specs.Views.{maker_of, spent, left_of, right_of, joined_view};
 ghost use Rattle.sv_turn.specs.Order.{InOrder};
-ghost use Rattle.sv_turn.specs.Plays.{Numbers, Draws, Looks, Counts, Releases};
+ghost use Rattle.sv_turn.specs.Plays.{NumbersParty, Draws, Looks, Counts, Releases};
 
 use crate::History;
 use crate::view::View;
@@ -28,7 +28,7 @@ impl<S: History> TableRule<Option<S>, View<S::Entry>, Start<S>> for Order {
 pub struct Number;
 
 impl<S: History> Play<Option<S>, View<S::Entry>> for Number {
-    ghost then = { Numbers };
+    ghost then = { NumbersParty };
 }
 
 /// The maker gives its party to a new seat.
@@ -44,7 +44,7 @@ impl<E> Split<View<E>> for Seated {
 pub struct Gathered;
 
 impl<E> Join<View<E>> for Gathered {
-    ghost both = { joined };
+    ghost both = { joined_view };
 
     ghost spent = { spent };
 }

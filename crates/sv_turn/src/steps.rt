@@ -2,7 +2,7 @@
 ghost use Rattle.std.specs.Prelude.{◌≡◌, ℕ, ◌%◌, ◌^◌, ◌<◌, [], ◌∷◌, true, false, Some, None, length};
 ghost use Rattle.sv_turn.specs.declared.view.SeatStage.TheVariants.{Away, Waits, Holds};
 ghost use Rattle.sv_turn.specs.Journals.{AddsOne};
-ghost use Rattle.sv_turn.specs.Views.{numbered, left_of, right_of, joined, ticket_of, at_stage, counted};
+ghost use Rattle.sv_turn.specs.Views.{numbered_view, left_of, right_of, joined_view, ticket_of, at_stage, counted_view};
 ghost use Rattle.sv_turn.specs.Plays.{IsHere};
 
 use crate::History;
@@ -31,7 +31,7 @@ pub fn number<S: History>(
     requires maker { (place.old.me.0.maker ≡ true) × (place.old.me.0.stage ≡ Away) × (0 < place.old.me.0.weight) }
     requires free { (place.old.me.0.account.party ≡ 0) × (place.old.me.0.last < party) }
     ensures table { place.new.table_id ≡ place.old.table_id }
-    ensures view { place.new.me ≡ (numbered party place.old.me.0, place.old.me.1) }
+    ensures view { place.new.me ≡ (numbered_view party place.old.me.0, place.old.me.1) }
 {
     shared.fetch_max::<Number>(place, NUMBERS, party as u64);
 }
@@ -61,7 +61,7 @@ pub fn gather<S: History>(
     requires outside { (place.old.me.0.stage ≡ Away) × (other.me.0.stage ≡ Away) × (other.me.1 ≡ []) }
     requires numbered { (0 < place.old.me.0.account.party) × (0 < other.me.0.account.party) }
     ensures table { place.new.table_id ≡ place.old.table_id }
-    ensures view { place.new.me ≡ (joined place.old.me.0 other.me.0, place.old.me.1) }
+    ensures view { place.new.me ≡ (joined_view place.old.me.0 other.me.0, place.old.me.1) }
 {
     shared.join_seat::<Gathered>(place, other);
 }
@@ -146,7 +146,7 @@ pub fn count<S: History>(
     requires holds { place.old.me.0.stage ≡ Holds (ticket_of place.old.me.0.stage) }
     requires state { (state : S) × (place.old.me.1 ≡ (0, Some state) ∷ []) × AddsOne S.party_of place.old.me.0.account.party place.old.me.0.account.known (S.entries state) }
     ensures table { place.new.table_id ≡ place.old.table_id }
-    ensures view { (state : S) → place.old.me.1 ≡ (0, Some state) ∷ [] → place.new.me ≡ (counted (length (S.entries state)) (S.entries state) place.old.me.0, place.old.me.1) }
+    ensures view { (state : S) → place.old.me.1 ≡ (0, Some state) ∷ [] → place.new.me ≡ (counted_view (length (S.entries state)) (S.entries state) place.old.me.0, place.old.me.1) }
 {
     shared.fetch_add::<Count>(place, LENGTH, 1);
 }

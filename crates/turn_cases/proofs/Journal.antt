@@ -1,27 +1,9 @@
--- The entry at a place, where the oldest entries come first in memory.
-use Rattle.std.proofs.Common.{◌≡◌, ◌≢◌, ℕ, ◌+◌, ◌-◌, ◌<◌, ◌≤◌, ◌==◌, cond, List, [], ◌∷◌, length, reverse, get_or, Option, Some, option_map, refl, sym, ap, ◌∙◌, arith, eq-eqb, ne_eqb}
-use Rattle.std.proofs.lemmas.List.{get_or-reverse, length-reverse}
-use mathlib.Core.Logic.{dite}
-use native.Mathlib.Decide.{ℕ_discrete}
+-- The entry at a place, where an entry is its party.
+use Rattle.std.proofs.Common.{◌≡◌, ℕ, ◌-◌, ◌≤◌, List, length, reverse, get_or, Some, option_map, sym, ap, ◌∙◌, arith}
+use Rattle.std.proofs.lemmas.List.{length-reverse}
 use Rattle.sv_turn.specs.Journals.{entry_at}
+use Rattle.sv_turn.proofs.EntryAt.{entry_at_reversed}
 use Rattle.turn_cases.specs.Logs.{itself}
 
-entry_is : (journal : List ℕ) (k d : ℕ) → k < length journal → entry_at journal (k + 1) ≡ Some (get_or journal (length journal - 1 - k) d)
-entry_is [] k d low = absurd (omega arith)
-entry_is (e ∷ journal) k d low = dite (ℕ_discrete k (length journal))
-    (λ is.
-    let first : length (e ∷ journal) - 1 - k ≡ 0 = omega arith in let here : k + 1 ≡ length journal + 1 = omega arith in
-    ap (λ b. cond b (Some e) (entry_at journal (k + 1))) (eq-eqb (k + 1) (length journal + 1) here) ∙ ap (λ (i : ℕ). Some (get_or (e ∷ journal) i d)) (sym first))
-    (λ ne.
-    let next : length (e ∷ journal) - 1 - k ≡ Rattle.std.proofs.Common.suc (length journal - 1 - k) = omega arith in
-    let older : k + 1 ≢ length journal + 1 = λ is. ne (omega arith) in
-    ap (λ b. cond b (Some e) (entry_at journal (k + 1))) (ne_eqb (k + 1) (length journal + 1) older)
-    ∙ (entry_is journal k d (omega arith) ∙ ap (λ (i : ℕ). Some (get_or (e ∷ journal) i d)) (sym next)))
-
 pub party_at_is : (items : List ℕ) (place x : ℕ) → 1 ≤ place → place ≤ length (reverse items) → x ≡ get_or items (place - 1) x → option_map itself (entry_at (reverse items) place) ≡ Some x
-party_at_is items place x low high is =
-    let k : ℕ = place - 1 in let long = length-reverse items in let whole : place ≡ k + 1 = omega arith in
-    let back : length items - 1 - (length (reverse items) - 1 - k) ≡ k = omega arith in
-    ap (λ (p : ℕ). option_map itself (entry_at (reverse items) p)) whole
-    ∙ (ap (option_map itself) (entry_is (reverse items) k x (omega arith))
-    ∙ ap Some (get_or-reverse items (length (reverse items) - 1 - k) x (omega arith) ∙ (ap (λ (i : ℕ). get_or items i x) back ∙ sym is)))
+party_at_is items place x low high is = let long = length-reverse items in ap (option_map itself) (entry_at_reversed items place x low (omega arith)) ∙ ap Some (sym is)

@@ -19,7 +19,7 @@ use Rattle.ws_commands.specs.Library.{names_asked_for, copied, copied_by, copy_l
 use Rattle.ws_commands.specs.Names.{identifying}
 use Rattle.ws_commands.specs.Reading.{step_of_command}
 use Rattle.ws_commands.specs.Row.{row_of_word}
-use Rattle.ws_commands.specs.Shelf.{FollowsCall, IsCall, Takes}
+use Rattle.ws_commands.specs.Shelf.{FollowsCall, IsCall, TakesStep}
 use Rattle.ws_commands.specs.Step.{Step, does, reads, writes, removes, lists, named}
 use Rattle.ws_commands.specs.Todo.{PlainChange, PlainTodo, clear, doing, erase, faulted, given_up, keep, off, replace, saying, set_id, swap}
 use Rattle.ws_commands.specs.declared.word.CommandWord.{CommandWord}
@@ -52,7 +52,7 @@ module _ {K : Type 0} (told : K → Option (Told (ℕ × List ℕ))) (faults : K
   called P Tells next old todo new all fault h = followed P next h.answer todo all (λ failed. fault (h.fault.cause failed)) h.after
 
   -- what is to be done has the property, where a call that failed leads to nothing else
-  taken : (P : PlainTodo → Type 0) (user : ℕ) (step : Step) (old : K) (todo : PlainTodo) (new : K) → AllHave P step → (Rose (faults old) (faults new) → P faulted) → Takes told faults user step old todo new → P todo
+  taken : (P : PlainTodo → Type 0) (user : ℕ) (step : Step) (old : K) (todo : PlainTodo) (new : K) → AllHave P step → (Rose (faults old) (faults new) → P faulted) → TakesStep told faults user step old todo new → P todo
   taken P user (does wanted) old todo new all fault h = subst P (sym h.0) all
   taken P user (reads name next) old todo new all fault h = called P _ next old todo new all fault h
   taken P user (writes name bytes wanted) old todo new all fault h = called {T = Unit {0}} P _ (λ _. wanted) old todo new (λ _. all) fault h
@@ -60,7 +60,7 @@ module _ {K : Type 0} (told : K → Option (Told (ℕ × List ℕ))) (faults : K
   taken P user (lists next) old todo new all fault h = called P _ next old todo new all fault h
 
   -- the same of a result
-  pub taken_result : {T E : Type 0} (P : PlainTodo → Type 0) (view : T → PlainTodo) (user : ℕ) (step : Step) (old new : K) (result : Result T E) → AllHave P step → (Rose (faults old) (faults new) → P faulted) → IfOk result (λ todo. Takes told faults user step old (view todo) new)
+  pub taken_result : {T E : Type 0} (P : PlainTodo → Type 0) (view : T → PlainTodo) (user : ℕ) (step : Step) (old new : K) (result : Result T E) → AllHave P step → (Rose (faults old) (faults new) → P faulted) → IfOk result (λ todo. TakesStep told faults user step old (view todo) new)
       → IfOk result (λ todo. P (view todo))
   taken_result P view user step old new (Ok todo) all fault h = taken P user step old (view todo) new all fault h
   taken_result P view user step old new (Err why) all fault h = tt

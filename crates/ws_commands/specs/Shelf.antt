@@ -33,12 +33,12 @@ module _ {K : Type 0} (told : K → Option (Told (ℕ × List ℕ))) (faults : K
     pub after : FollowsCall next answer todo
 
   -- a step of a user, with what is to be done: without a call of the shelf, or with one
-  abbrev pub Takes : ℕ → Step → K → PlainTodo → K → Type 0
-  Takes user (does wanted) old todo new = (todo ≡ wanted) × (new ≡ old)
-  Takes user (reads name next) old todo new = IsCall (λ before answer now. Reads by_user_and_name before (user, name) answer now) next old todo new
-  Takes user (writes name bytes wanted) old todo new = IsCall {T = Unit {0}} (λ before answer now. Writes by_user_and_name before (user, name) bytes answer now) (λ _. wanted) old todo new
-  Takes user (removes name next) old todo new = IsCall (λ before answer now. Removes by_user_and_name before (user, name) answer now) next old todo new
-  Takes user (lists next) old todo new = IsCall (λ before answer now. ListsInOrder before user answer now) next old todo new
+  abbrev pub TakesStep : ℕ → Step → K → PlainTodo → K → Type 0
+  TakesStep user (does wanted) old todo new = (todo ≡ wanted) × (new ≡ old)
+  TakesStep user (reads name next) old todo new = IsCall (λ before answer now. Reads by_user_and_name before (user, name) answer now) next old todo new
+  TakesStep user (writes name bytes wanted) old todo new = IsCall {T = Unit {0}} (λ before answer now. Writes by_user_and_name before (user, name) bytes answer now) (λ _. wanted) old todo new
+  TakesStep user (removes name next) old todo new = IsCall (λ before answer now. Removes by_user_and_name before (user, name) answer now) next old todo new
+  TakesStep user (lists next) old todo new = IsCall (λ before answer now. ListsInOrder before user answer now) next old todo new
 
 -- what a shelf tells is kept, its places among it, though it may have had one call more
 abbrev pub KeepsEntries : Option (Told (ℕ × List ℕ)) → Option (Told (ℕ × List ℕ)) → Type 0

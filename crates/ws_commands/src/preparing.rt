@@ -7,7 +7,7 @@ ghost use Rattle.ws_commands.specs.Library.{copying, dropping, listing_library, 
 ghost use Rattle.ws_commands.specs.Names.{clearing, ending_session};
 ghost use Rattle.ws_commands.specs.Reading.{step_of_command, step_of};
 ghost use Rattle.ws_commands.specs.Row.{row_of_word};
-ghost use Rattle.ws_commands.specs.Shelf.{KeepsEntries, Takes};
+ghost use Rattle.ws_commands.specs.Shelf.{KeepsEntries, TakesStep};
 ghost use Rattle.ws_commands.specs.Step.{named};
 ghost use Rattle.ws_commands.specs.Todo.{faulted, given_up, plain_change, plain_todo};
 
@@ -40,7 +40,7 @@ pub fn prepare<K: Shelf>(
     shelf: &mut K,
 ) -> Result<Todo, WantOfMemory>
     requires frames { ws.now.frames ≡ [] }
-    ensures todo { IfOk result (λ todo. Takes K.told K.faults user (step_of line.now.items ws.now (option_copied wsid.entry)) shelf.old (plain_todo todo) shelf.new) }
+    ensures todo { IfOk result (λ todo. TakesStep K.told K.faults user (step_of line.now.items ws.now (option_copied wsid.entry)) shelf.old (plain_todo todo) shelf.new) }
     ensures retract { IfOk result (λ todo. todo.retract.items ≡ given_up (plain_change todo.change) ws.now) }
     ensures fault { IfOk result (λ todo. plain_todo todo ≡ faulted → Rose (K.faults shelf.old) (K.faults shelf.new)) }
     ensures comes { IfOk result (λ todo. IfSome (workspace_brought (plain_change todo.change)) (MayComeIn ws.now)) }
@@ -63,7 +63,7 @@ fn perform_known<K: Shelf>(
     shelf: &mut K,
 ) -> Result<Todo, WantOfMemory>
     requires frames { ws.now.frames ≡ [] }
-    ensures ok { IfOk result (λ todo. Takes K.told K.faults user (step_of_command (option_map plain_command command.now) ws.now (option_copied wsid.entry)) shelf.old (plain_todo todo) shelf.new) }
+    ensures ok { IfOk result (λ todo. TakesStep K.told K.faults user (step_of_command (option_map plain_command command.now) ws.now (option_copied wsid.entry)) shelf.old (plain_todo todo) shelf.new) }
     ensures kept { OnErr result (KeepsEntries (K.told shelf.old) (K.told shelf.new)) }
     ensures counted { K.faults shelf.old ≤ K.faults shelf.new }
 {
@@ -83,7 +83,7 @@ fn perform<K: Shelf>(
     shelf: &mut K,
 ) -> Result<Todo, WantOfMemory>
     requires frames { ws.now.frames ≡ [] }
-    ensures ok { IfOk result (λ todo. Takes K.told K.faults user ((row_of_word command.now.word).step (plain_command command.now) ws.now (option_copied wsid.entry)) shelf.old (plain_todo todo) shelf.new) }
+    ensures ok { IfOk result (λ todo. TakesStep K.told K.faults user ((row_of_word command.now.word).step (plain_command command.now) ws.now (option_copied wsid.entry)) shelf.old (plain_todo todo) shelf.new) }
     ensures kept { OnErr result (KeepsEntries (K.told shelf.old) (K.told shelf.new)) }
     ensures counted { K.faults shelf.old ≤ K.faults shelf.new }
 {
@@ -136,7 +136,7 @@ fn load<K: Shelf>(
     user: u32,
     shelf: &mut K,
 ) -> Result<Todo, WantOfMemory>
-    ensures ok { IfOk result (λ todo. Takes K.told K.faults user (named command.now.workspace (λ name. loading name ws.now)) shelf.old (plain_todo todo) shelf.new) }
+    ensures ok { IfOk result (λ todo. TakesStep K.told K.faults user (named command.now.workspace (λ name. loading name ws.now)) shelf.old (plain_todo todo) shelf.new) }
     ensures kept { OnErr result (KeepsEntries (K.told shelf.old) (K.told shelf.new)) }
     ensures counted { K.faults shelf.old ≤ K.faults shelf.new }
 {
@@ -154,7 +154,7 @@ fn load_named<K: Shelf>(
     user: u32,
     shelf: &mut K,
 ) -> Result<Todo, WantOfMemory>
-    ensures ok { IfOk result (λ todo. Takes K.told K.faults user (loading name.now ws.now) shelf.old (plain_todo todo) shelf.new) }
+    ensures ok { IfOk result (λ todo. TakesStep K.told K.faults user (loading name.now ws.now) shelf.old (plain_todo todo) shelf.new) }
     ensures kept { OnErr result (KeepsEntries (K.told shelf.old) (K.told shelf.new)) }
     ensures counted { K.faults shelf.old ≤ K.faults shelf.new }
 {
@@ -170,7 +170,7 @@ fn copy<K: Shelf>(
     shelf: &mut K,
 ) -> Result<Todo, WantOfMemory>
     requires frames { ws.now.frames ≡ [] }
-    ensures ok { IfOk result (λ todo. Takes K.told K.faults user (named command.now.workspace (λ name. copying name command.now.objects.items ws.now)) shelf.old (plain_todo todo) shelf.new) }
+    ensures ok { IfOk result (λ todo. TakesStep K.told K.faults user (named command.now.workspace (λ name. copying name command.now.objects.items ws.now)) shelf.old (plain_todo todo) shelf.new) }
     ensures kept { OnErr result (KeepsEntries (K.told shelf.old) (K.told shelf.new)) }
     ensures counted { K.faults shelf.old ≤ K.faults shelf.new }
 {
@@ -190,7 +190,7 @@ fn copy_named<K: Shelf>(
     shelf: &mut K,
 ) -> Result<Todo, WantOfMemory>
     requires frames { ws.now.frames ≡ [] }
-    ensures ok { IfOk result (λ todo. Takes K.told K.faults user (copying name.now objects.now.items ws.now) shelf.old (plain_todo todo) shelf.new) }
+    ensures ok { IfOk result (λ todo. TakesStep K.told K.faults user (copying name.now objects.now.items ws.now) shelf.old (plain_todo todo) shelf.new) }
     ensures kept { OnErr result (KeepsEntries (K.told shelf.old) (K.told shelf.new)) }
     ensures counted { K.faults shelf.old ≤ K.faults shelf.new }
 {
@@ -204,7 +204,7 @@ fn remove<K: Shelf>(
     user: u32,
     shelf: &mut K,
 ) -> Result<Todo, WantOfMemory>
-    ensures ok { IfOk result (λ todo. Takes K.told K.faults user (named command.now.workspace dropping) shelf.old (plain_todo todo) shelf.new) }
+    ensures ok { IfOk result (λ todo. TakesStep K.told K.faults user (named command.now.workspace dropping) shelf.old (plain_todo todo) shelf.new) }
     ensures kept { OnErr result (KeepsEntries (K.told shelf.old) (K.told shelf.new)) }
     ensures counted { K.faults shelf.old ≤ K.faults shelf.new }
 {
@@ -216,7 +216,7 @@ fn remove<K: Shelf>(
 
 // `)LIB`: the shelf is asked for its names.
 fn list_library<K: Shelf>(alloc: Global, user: u32, shelf: &mut K) -> Result<Todo, WantOfMemory>
-    ensures ok { IfOk result (λ todo. Takes K.told K.faults user listing_library shelf.old (plain_todo todo) shelf.new) }
+    ensures ok { IfOk result (λ todo. TakesStep K.told K.faults user listing_library shelf.old (plain_todo todo) shelf.new) }
     ensures kept { OnErr result (KeepsEntries (K.told shelf.old) (K.told shelf.new)) }
     ensures counted { K.faults shelf.old ≤ K.faults shelf.new }
 {

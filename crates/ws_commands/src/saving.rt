@@ -1,6 +1,6 @@
 ghost use Rattle.std.specs.Prelude.{◌≡◌, ◌≤◌, [], Some, IfOk, OnErr, if◌then◌else◌};
 ghost use Rattle.ws_commands.specs.Library.{dropping, saving};
-ghost use Rattle.ws_commands.specs.Shelf.{KeepsEntries, Takes};
+ghost use Rattle.ws_commands.specs.Shelf.{KeepsEntries, TakesStep};
 ghost use Rattle.ws_commands.specs.Todo.{plain_todo, saying};
 
 use crate::lines::{one_line, text_line};
@@ -21,7 +21,7 @@ pub(crate) fn save<K: Shelf>(
     shelf: &mut K,
 ) -> Result<Todo, WantOfMemory>
     requires frames { ws.now.frames ≡ [] }
-    ensures ok { IfOk result (λ todo. Takes K.told K.faults user (saving name ws.now) shelf.old (plain_todo todo) shelf.new) }
+    ensures ok { IfOk result (λ todo. TakesStep K.told K.faults user (saving name ws.now) shelf.old (plain_todo todo) shelf.new) }
     ensures kept { OnErr result (KeepsEntries (K.told shelf.old) (K.told shelf.new)) }
     ensures counted { K.faults shelf.old ≤ K.faults shelf.new }
 {
@@ -40,7 +40,7 @@ fn save_as<K: Shelf>(
     shelf: &mut K,
 ) -> Result<Todo, WantOfMemory>
     requires frames { ws.now.frames ≡ [] }
-    ensures ok { IfOk result (λ todo. Takes K.told K.faults user (saving (Some name) ws.now) shelf.old (plain_todo todo) shelf.new) }
+    ensures ok { IfOk result (λ todo. TakesStep K.told K.faults user (saving (Some name) ws.now) shelf.old (plain_todo todo) shelf.new) }
     ensures kept { OnErr result (KeepsEntries (K.told shelf.old) (K.told shelf.new)) }
     ensures counted { K.faults shelf.old ≤ K.faults shelf.new }
 {
@@ -62,7 +62,7 @@ pub(crate) fn drop_saved<K: Shelf>(
     user: u32,
     shelf: &mut K,
 ) -> Result<Todo, WantOfMemory>
-    ensures ok { IfOk result (λ todo. Takes K.told K.faults user (dropping name.now) shelf.old (plain_todo todo) shelf.new) }
+    ensures ok { IfOk result (λ todo. TakesStep K.told K.faults user (dropping name.now) shelf.old (plain_todo todo) shelf.new) }
     ensures kept { OnErr result (KeepsEntries (K.told shelf.old) (K.told shelf.new)) }
     ensures counted { K.faults shelf.old ≤ K.faults shelf.new }
 {

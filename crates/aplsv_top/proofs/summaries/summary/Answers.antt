@@ -2,14 +2,14 @@ use Rattle.std.proofs.Common.{◌≡◌, ◌++◌, ◌∷◌, ◌∙◌, ℕ, Li
 use Rattle.std.proofs.lemmas.List.{length-map}
 use Rattle.line_text.specs.Lines.{content, end_line, line_text, lines_text}
 use Rattle.sv_events.specs.Entry.{PlainEntry, plain_entry}
-use Rattle.aplsv_top.specs.Summary.{counted, held_count, last_line, line_count, was_held}
+use Rattle.aplsv_top.specs.Summary.{summary_line, held_count, last_line, line_count, was_held}
 use Rattle.aplsv_top.proofs.SummaryLines.{six, sum_by-map}
 use Rattle.aplsv_top.proofs.summaries.summary.Goals as goal
 
 -- the lines of a summary, by its numbers
 abbrev lines_of : ℕ → ℕ → ℕ → ℕ → List ℕ → List ℕ
 lines_of n entries held lines last =
-    lines_text (counted (codes "load") n ∷ counted (codes "entries") entries ∷ counted (codes "held") held ∷ counted (codes "lines") lines ∷ content last ∷ end_line ∷ [])
+    lines_text (summary_line (codes "load") n ∷ summary_line (codes "entries") entries ∷ summary_line (codes "held") held ∷ summary_line (codes "lines") lines ∷ content last ∷ end_line ∷ [])
 
 abbrev with_number : List ℕ → ℕ → List ℕ
 with_number word number = line_text (word ++ decimal number)

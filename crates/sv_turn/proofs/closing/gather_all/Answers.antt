@@ -1,7 +1,7 @@
 use Rattle.std.proofs.Common.{rules, arith, ℕ, ◌<◌, ◌≤◌, List, ◌∷◌, [], ◌++◌, All, length, sym, ap, ◌∙◌, subst, length-set, take_all}
 use lib.Seq.{map-set_same}
 use Rattle.sv_turn.specs.declared.view.Account.{Account}
-use Rattle.sv_turn.specs.Seating.{IsSeatAt, IsClosed, party_and_places, account_of}
+use Rattle.sv_turn.specs.Seating.{IsSeatAt, IsClosed, party_and_places, seat_account}
 use Rattle.sv_turn.proofs.Gathering.{same_at, same_after, mapped_more, all_more}
 use Rattle.sv_turn.proofs.closing.gather_all.Goals as goal
 
@@ -24,7 +24,7 @@ loop-index-preserved g c =
       did.place.1,
       did.place.2,
       (let w = did.weight in let v = inv.4 in omega arith),
-      did.accounts ∙ (ap (λ (xs : List (Account g.row.S-Entry.Denot)). xs ++ account_of seat ∷ []) inv.5 ∙ mapped_more account_of c.args.list.now.items i seat low' (value ∙ here)),
+      did.accounts ∙ (ap (λ (xs : List (Account g.row.S-Entry.Denot)). xs ++ seat_account seat ∷ []) inv.5 ∙ mapped_more seat_account c.args.list.now.items i seat low' (value ∙ here)),
       map-set_same party_and_places c.loop-index.list.items i done seat (did.seat.1 ∙ ap party_and_places value) ∙ inv.6,
       all_more IsClosed c.loop-index.list.items i done low inv.7 did.seat.0,
       same_after c.loop-index.list.items c.args.list.now.items i done inv.8,

@@ -3,7 +3,7 @@ use Rattle.std.specs.Prelude.{IfOk}
 use Rattle.apl_io.specs.Faults.{Rose}
 use Rattle.ws_commands.specs.Command.{PlainCommand, plain_command}
 use Rattle.ws_commands.specs.Reading.{command_in, step_of_command}
-use Rattle.ws_commands.specs.Shelf.{Takes}
+use Rattle.ws_commands.specs.Shelf.{TakesStep}
 use Rattle.ws_commands.specs.Todo.{PlainTodo, faulted, plain_todo}
 use Rattle.ws_commands.specs.Words.{words_in}
 use Rattle.ws_commands.proofs.Outcomes.{Comes, Gives, all_caused, all_come, all_give, taken_result}
@@ -12,7 +12,7 @@ use Rattle.ws_commands.proofs.preparing.prepare.Goals as goal
 pub returns-clause-todo : goal.returns-clause-todo
 returns-clause-todo g c =
     subst
-    (λ (command : Option PlainCommand). IfOk c.perform_known-todo.result (λ todo. Takes g.K.Shelf.told g.K.Shelf.faults c.args.user (step_of_command command c.args.ws.now (option_copied c.args.wsid)) c.args.shelf.now (plain_todo todo) c.perform_known-todo.new.shelf))
+    (λ (command : Option PlainCommand). IfOk c.perform_known-todo.result (λ todo. TakesStep g.K.Shelf.told g.K.Shelf.faults c.args.user (step_of_command command c.args.ws.now (option_copied c.args.wsid)) c.args.shelf.now (plain_todo todo) c.perform_known-todo.new.shelf))
     (c.in_ok-command.ensures ∙ ap (λ (line : List ℕ). command_in (words_in line)) c.as_slice.ensures) c.perform_known-todo.ensures.ok
 
 pub returns-clause-retract : goal.returns-clause-retract
