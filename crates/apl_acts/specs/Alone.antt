@@ -1,14 +1,12 @@
 -- Lines that are one act alone: the use of a shared name, whose value is printed, and the set of one to a constant.
-use Rattle.std.specs.Prelude.{◌≡◌, ◌≤◌, ℕ, true, List, [], ◌∷◌, Some, IfSome, map}
+use Rattle.std.specs.Prelude.{◌≡◌, ℕ, true, List, [], ◌∷◌, map}
 use Rattle.apl_arrays.specs.Array as array
 use Rattle.apl_arrays.specs.Array.{PlainArray}
 use Rattle.apl_arrays.specs.Glyph.{left_arrow}
 use Rattle.line_scanner.specs.Token as token
 use Rattle.line_scanner.specs.Token.{PlainKind, PlainToken}
-use Rattle.apl_workspace.specs.Limits.{most_weight}
 use Rattle.apl_workspace.specs.Meaning.{is_shared_meaning}
-use Rattle.apl_workspace.specs.Workspace.{PlainWorkspace, look, with_global, workspace_weight}
-use Rattle.apl_workspace.specs.declared.meaning.Meaning.TheVariants as meaning
+use Rattle.apl_workspace.specs.Workspace.{PlainWorkspace, look}
 use Rattle.sv_events.specs.Answer.{PlainAnswer}
 use Rattle.sv_events.specs.Row.{answer_row}
 use Rattle.sv_events.specs.declared.event.Act.{Act}
@@ -84,9 +82,3 @@ answer_told other answer s = gives tt s
 -- what an answer to the act does
 abbrev pub answer_outcome : Act → PlainAnswer → State → Effect
 answer_outcome asked answer s = and_then (unless_ended (report_of_kind (answer_row answer).row.kind) answer s) (λ told t. answer_told asked told t)
-
--- the workspace does not weigh too much with the own copy that an answer brings: the value of a use, or what was set
-abbrev pub CopyFits : PlainWorkspace → Act → PlainAnswer → Type 0
-CopyFits w (act.Use name) answer = IfSome (answer_row answer).value (λ value. workspace_weight (with_global w name (meaning.Shared (Some value))) ≤ most_weight)
-CopyFits w (act.Set name value) answer = workspace_weight (with_global w name (meaning.Shared (Some value))) ≤ most_weight
-CopyFits w other answer = Unit {0}

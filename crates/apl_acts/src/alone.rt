@@ -15,7 +15,8 @@ ghost use Rattle.sv_events.specs.Answer.{plain_answer};
 ghost use Rattle.sv_events.specs.Row.{answer_row};
 ghost use Rattle.apl_values.specs.Parts.{IsConstant};
 ghost use Rattle.apl_statements.specs.Led.{HasLed};
-ghost use Rattle.apl_acts.specs.Alone.{CopyFits, IsConstantOf, IsActOf, IsOnShared, answer_outcome, kinds_of};
+ghost use Rattle.apl_statements.specs.Wants.{CopyFits};
+ghost use Rattle.apl_acts.specs.Alone.{IsConstantOf, IsActOf, IsOnShared, answer_outcome, kinds_of};
 
 use apl_arrays::{Array, Fail, Glyph, Items, LineList, Name, Report, WantOfMemory};
 use apl_display::lines_of;

@@ -113,7 +113,7 @@ pub fn system(
     }
 }
 
-// P ⎕SVO N, or ⎕SVO N where there is no P.
+// P ⎕SVO N, or ⎕SVO N where there is no P, of which a report comes also where there is no memory.
 fn offer_or_ask(
     interpreter: &Interpreter,
     e: Evaluation,
@@ -123,6 +123,7 @@ fn offer_or_ask(
     requires sound { IsCaller interpreter.now.workspace e }
     requires left { IfSome left (IsStackValue interpreter.now.workspace (parts_of e)) }
     ensures comes { Comes interpreter.now (part_gives interpreter.now e (λ s. valued (system_outcome Svo (option_map (stack_value interpreter.now.workspace (parts_of e)) left) n.now s))) 0 interpreter.now result }
+    ensures memory { left ≡ None → OnWantOfMemory result (NoReportIsDue interpreter.now (system_outcome Svo None n.now)) }
     ensures sound { IfOk result (IsFlow interpreter.now) }
     ensures within { IfOk result (StaysWithin interpreter.now e interpreter.now) }
 {
@@ -135,7 +136,7 @@ fn offer_or_ask(
     }
 }
 
-// C ⎕SVC N, or ⎕SVC N where there is no C.
+// C ⎕SVC N, or ⎕SVC N where there is no C, of which a report comes also where there is no memory.
 fn control_or_ask(
     interpreter: &Interpreter,
     e: Evaluation,
@@ -145,6 +146,7 @@ fn control_or_ask(
     requires sound { IsCaller interpreter.now.workspace e }
     requires left { IfSome left (IsStackValue interpreter.now.workspace (parts_of e)) }
     ensures comes { Comes interpreter.now (part_gives interpreter.now e (λ s. valued (system_outcome Svc (option_map (stack_value interpreter.now.workspace (parts_of e)) left) n.now s))) 0 interpreter.now result }
+    ensures memory { left ≡ None → OnWantOfMemory result (NoReportIsDue interpreter.now (system_outcome Svc None n.now)) }
     ensures sound { IfOk result (IsFlow interpreter.now) }
     ensures within { IfOk result (StaysWithin interpreter.now e interpreter.now) }
 {
@@ -255,6 +257,7 @@ pub fn do_rows(
     requires fits { FitsLimits (result_shape n.now each.now) }
     requires count { element_count (result_shape n.now each.now) ≡ count_told (map plain_name_row rows.items) }
     ensures comes { Comes interpreter.now (part_gives interpreter.now e (rest_of_rows [] (map plain_name_row rows.items) (result_shape n.now each.now))) 0 interpreter.now result }
+    ensures refused { IfErr result (λ why. why ≡ fail.WantOfMemory) }
     ensures sound { IfOk result (IsFlow interpreter.now) }
     ensures within { IfOk result (StaysWithin interpreter.now e interpreter.now) }
 {

@@ -1,9 +1,10 @@
 -- What an answer brings, and what an assignment does: the workspace changes, and the statement goes on.
 use Rattle.std.proofs.Common.{◌≡◌, ℕ, ◌≤◌, Bool, true, false, List, refl, sym, ap, ◌∙◌}
-use Rattle.std.specs.Prelude.{◌&&◌, Option, Some, None, IfSome, cond, not, is_some}
+use Rattle.std.specs.Prelude.{◌&&◌, Option, Some, None, Err, IfSome, cond, not, is_some}
 use Rattle.std.proofs.lemmas.Bool.{false≢true}
 use Rattle.apl_arrays.specs.Array.{PlainArray}
 use Rattle.apl_arrays.specs.declared.report.Report.{Report}
+use Rattle.apl_arrays.specs.declared.report.Fail.{Fail}
 use Rattle.apl_arrays.specs.declared.report.Fail.TheVariants as fail
 use Rattle.apl_workspace.specs.Limits.{most_weight}
 use Rattle.apl_workspace.specs.Meaning.{IsLocal, is_shared_meaning, meaning_in}
@@ -12,18 +13,19 @@ use Rattle.apl_workspace.specs.declared.meaning.Meaning.{Meaning}
 use Rattle.apl_workspace.specs.declared.meaning.Meaning.TheVariants as meaning
 use Rattle.apl_workspace.proofs.Looks.{look_assigned, look_with}
 use Rattle.apl_workspace.proofs.NameLaw.{own_name}
-use Rattle.apl_meaning.specs.State.{State, Outcome, Effect, refuses, and_then}
+use Rattle.apl_meaning.specs.State.{State, Outcome, Effect, gives, refuses, and_then}
 use Rattle.apl_meaning.specs.Tasks.{Next}
 use Rattle.apl_meaning.specs.Expressions.{Found}
 use Rattle.apl_meaning.specs.Variables.{assignment, assignment_by}
+use Rattle.apl_values.specs.Pending.{assigned_giving}
 use Rattle.apl_values.proofs.Locals.{frames_are_local}
 use Rattle.apl_statements.specs.declared.evaluation.Evaluation.{Evaluation}
 use Rattle.apl_statements.specs.Evaluating.{caller_of}
 use Rattle.apl_statements.specs.Interpreter.{PlainInterpreter, here, state_at}
-use Rattle.apl_statements.specs.Moves.{Does, Moves, Refuses, part_gives}
+use Rattle.apl_statements.specs.Moves.{Comes, Does, Moves, Refuses, part_gives}
 use Rattle.apl_statements.specs.Stack.{PlainCaller, carried_on, onward, resumed}
 use Rattle.apl_statements.proofs.Renewing.{changed, not_changed, on}
-use Rattle.apl_statements.proofs.Same.{behind_done, moves_as, moves_then}
+use Rattle.apl_statements.proofs.Same.{at_once, behind_done, moves_as, moves_then}
 use Rattle.apl_statements.proofs.Steps.{grouped}
 
 -- a part that was done on another workspace, and then what the statement gets
@@ -62,6 +64,15 @@ refused_where m name value there (meaning.Shared copy) report shared why = absur
 pub assignment_refuses : (m : PlainInterpreter) (name : List ℕ) (value : PlainArray) (there : Bool) (report : Report) → is_shared_meaning (look m.workspace name) ≡ false → IsNotAssigned there (is_assignable (look m.workspace name)) (assigned m.workspace name value) (fail.Report report)
     → Refuses m (assignment name value) report m
 assignment_refuses m name value there report shared why = record { same = (refused_where m name value there (look m.workspace name) report shared why).same }
+
+-- a value that could not be copied for a name ends the line as its assignment would
+pub not_copied_ends : (m : PlainInterpreter) (e : Evaluation) (name : List ℕ) (right : PlainArray) (why : Fail) (shared : Bool) → is_shared_meaning (look m.workspace name) ≡ shared → (shared ≡ true → why ≡ fail.WantOfMemory)
+    → (shared ≡ false → IsNotAssigned false (is_assignable (look m.workspace name)) (assigned m.workspace name right) why) → Comes m (part_gives m e (assigned_giving name right right)) 0 m (Err why)
+not_copied_ends m e name right fail.WantOfMemory shared is one other = tt
+not_copied_ends m e name right (fail.Report report) true is one other = absurd (let no : fail.Report report ≡ fail.WantOfMemory = one refl in cc)
+not_copied_ends m e name right (fail.Report report) false is one other =
+    at_once m (part_gives m e (assigned_giving name right right)) (λ s. refuses report s) (λ asked count taken further.
+    ap (λ (o : Effect). carried_on (and_then o (λ _ t. gives (Some right) t)) (caller_of m.workspace (here m) e) m.stack) ((assignment_refuses m name right false report is (other refl)).same asked count taken further))
 
 -- the name has the value then
 pub assigned_value : (w : PlainWorkspace) (name : List ℕ) (value : PlainArray) → look (assigned w name value) name ≡ meaning.Value value

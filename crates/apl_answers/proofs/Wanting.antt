@@ -1,5 +1,5 @@
 -- Where memory ran out for an assignment no report was due that comes without it.
-use Rattle.std.proofs.Common.{◌≡◌, ◌≤◌, ◌<◌, Bool, true, false, cond, List, [], refl, sym, ap, subst, ◌∙◌, arith}
+use Rattle.std.proofs.Common.{◌≡◌, ◌≤◌, ◌<◌, Bool, true, false, cond, List, [], ◌∷◌, refl, sym, ap, subst, ◌∙◌, arith}
 use Rattle.std.specs.Prelude.{ℕ, Option, Some, None, Result, Ok, Err, IfErr, IsOk, nat_le}
 use Rattle.apl_arrays.specs.Array.{PlainArray}
 use Rattle.apl_arrays.specs.declared.report.Fail.{Fail}
@@ -16,12 +16,16 @@ use Rattle.apl_workspace.specs.declared.meaning.Meaning.{Meaning}
 use Rattle.apl_workspace.specs.declared.meaning.Meaning.TheVariants as meaning
 use Rattle.std.proofs.lemmas.Bool.{false≢true}
 use Rattle.std.proofs.lemmas.Bool.Decides.{nat_tests}
+use Rattle.sv_events.specs.Answer.{PlainAnswer}
+use Rattle.apl_meaning.specs.Deeds.{Deed, offer, ask_degree, set_control, ask_control, ask_state, retract}
+use Rattle.apl_meaning.specs.Naming.{Naming}
 use Rattle.apl_meaning.specs.State.{State, Outcome}
 use Rattle.apl_meaning.specs.Variables.{assignment, assignment_by}
+use Rattle.apl_values.specs.Rows.{PlainNameRow, deed_act, rows_act}
 use Rattle.apl_statements.specs.declared.flow.Flow.{Flow}
 use Rattle.apl_statements.specs.Interpreter.{PlainInterpreter, state_at}
 use Rattle.apl_statements.specs.Moves.{Does}
-use Rattle.apl_statements.specs.Wants.{IsNoReport}
+use Rattle.apl_statements.specs.Wants.{CopyFits, IsNoReport}
 
 -- a name for whose value there is no memory takes one
 pub assigned_want : {T : Type 0} (r : Result T Fail) (there takes : Bool) (w : PlainWorkspace) → IfErr r (IsNotAssigned there takes w) → OnWantOfMemory r (takes ≡ true)
@@ -95,3 +99,28 @@ kept_room T w false is = tt
 -- a copy that would not fit is too heavy
 pub kept_heavy : (w : PlainWorkspace) → false ≡ nat_le (workspace_weight w) most_weight → IsTooHeavy w (fail.Report WsFull)
 kept_heavy w is = (refl, above (workspace_weight w) most_weight (sym is))
+
+deed_brings_no_copy : (w : PlainWorkspace) (deed : Deed) (names : Naming) (answer : PlainAnswer) → CopyFits w (deed_act deed names w) answer
+deed_brings_no_copy w (offer to) names answer = tt
+deed_brings_no_copy w ask_degree names answer = tt
+deed_brings_no_copy w (set_control control) names answer = tt
+deed_brings_no_copy w ask_control names answer = tt
+deed_brings_no_copy w ask_state names answer = tt
+deed_brings_no_copy w retract names answer = tt
+
+-- the answer of a row brings no own copy
+pub row_brings_no_copy : (w : PlainWorkspace) (rows : List PlainNameRow) (answer : PlainAnswer) → CopyFits w (rows_act rows w) answer
+row_brings_no_copy w [] answer = tt
+row_brings_no_copy w (row ∷ rows) answer = deed_brings_no_copy w row.1 row.0 answer
+
+-- a name for which a value could not be copied takes one
+pub not_copied_takes : {T : Type 0} (why : Fail) (seen : Meaning) (w : PlainWorkspace) (shared : Bool) → is_shared_meaning seen ≡ shared → (shared ≡ false → IsNotAssigned false (is_assignable seen) w why)
+    → OnWantOfMemory {T = T} (Err why) (is_assignable seen ≡ true)
+not_copied_takes (fail.Report report) seen w shared is other = tt
+not_copied_takes fail.WantOfMemory seen w true is other = shared_takes seen is
+not_copied_takes fail.WantOfMemory seen w false is other = (other refl).0
+
+-- and the value would fit
+pub not_copied_fits : {T : Type 0} (why : Fail) (takes : Bool) (w : PlainWorkspace) → IsNotAssigned false takes w why → OnWantOfMemory {T = T} (Err why) (workspace_weight w ≤ most_weight)
+not_copied_fits (fail.Report report) takes w refused = tt
+not_copied_fits fail.WantOfMemory takes w refused = refused.2

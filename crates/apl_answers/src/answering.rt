@@ -1,18 +1,17 @@
-ghost use Rattle.std.specs.Prelude.{◌≡◌, ◌≢◌, ◌≤◌, [], Some, None, true, IfErr, IfOk, IsSome, OnOk, length, slice_get, unwrap_or};
+ghost use Rattle.std.specs.Prelude.{◌≡◌, ◌≢◌, [], Some, None, true, IfErr, IfOk, IsSome, OnOk, length, slice_get, unwrap_or};
 ghost use Rattle.apl_arrays.specs.declared.report.Fail.TheVariants as fail;
 ghost use Rattle.apl_items.specs.Places.{OnWantOfMemory};
 ghost use Rattle.apl_meaning.specs.Answers.{report_of_kind};
 ghost use Rattle.sv_events.specs.Answer.{granted, plain_answer};
 ghost use Rattle.sv_events.specs.Row.{answer_row};
-ghost use Rattle.apl_arrays.specs.Array.{PlainArray};
-ghost use Rattle.apl_workspace.specs.Limits.{most_weight};
+ghost use Rattle.sv_events.specs.declared.event.Act.TheVariants as act;
 ghost use Rattle.apl_workspace.specs.Meaning.{is_shared_meaning};
-ghost use Rattle.apl_workspace.specs.Workspace.{look, with_global, workspace_weight};
-ghost use Rattle.apl_workspace.specs.declared.meaning.Meaning.TheVariants as meaning;
-ghost use Rattle.apl_values.specs.Pending.{IsPending, brought, brought_by, plain_act_purpose, refers, replaces, sets};
+ghost use Rattle.apl_workspace.specs.Workspace.{look};
+ghost use Rattle.apl_values.specs.Pending.{IsPending, act_for_purpose, brought, brought_by, plain_act_purpose, refers, replaces, sets};
 ghost use Rattle.apl_values.specs.Rows.{AreRows, FirstAsksAct, HasTold, RowMayBeDone, asks_act, plain_deed, plain_naming, plain_name_row, row_done, row_numbers, row_zeros, rows_brought, rows_left};
 ghost use Rattle.apl_statements.specs.Moves.{Comes, part_gives};
 ghost use Rattle.apl_statements.specs.Sound.{IsCaller, IsFlow};
+ghost use Rattle.apl_statements.specs.Wants.{CopyFits};
 ghost use Rattle.apl_statements.specs.Work.{StaysWithin};
 
 use crate::assigning::{given, replace_items};
@@ -26,6 +25,7 @@ use sv_access::Control;
 use sv_events::{Answer, copy_value};
 
 /// What an answer brings: it ends the line by a report, also where there is no memory, or the statement that asked goes on.
+/// WS FULL where the workspace would weigh too much with the own copy that it brings, also where there is no memory.
 pub fn bring(
     interpreter: &mut Interpreter,
     answer: Answer,
@@ -36,6 +36,7 @@ pub fn bring(
     requires pending { IsPending interpreter.old.workspace pending }
     ensures comes { Comes interpreter.old (part_gives interpreter.old e (brought_by (plain_answer answer) (plain_act_purpose pending))) 0 interpreter.new result }
     ensures memory { OnWantOfMemory result (report_of_kind (answer_row (plain_answer answer)).row.kind ≡ None) }
+    ensures room { OnWantOfMemory result (CopyFits interpreter.old.workspace (act_for_purpose (plain_act_purpose pending) interpreter.old.workspace) (plain_answer answer)) }
     ensures sound { IfOk result (IsFlow interpreter.new) }
     ensures within { IfOk result (StaysWithin interpreter.old e interpreter.new) }
 {
@@ -66,7 +67,7 @@ fn bring_value(
     requires seen { is_shared_meaning (look interpreter.old.workspace name) ≡ true }
     ensures comes { Comes interpreter.old (part_gives interpreter.old e (brought (refers name) (plain_answer answer))) 0 interpreter.new result }
     ensures memory { OnWantOfMemory result (IsSome (answer_row (plain_answer answer)).value) }
-    ensures room { (value : PlainArray) → (answer_row (plain_answer answer)).value ≡ Some value → OnWantOfMemory result (workspace_weight (with_global interpreter.old.workspace name (meaning.Shared (Some value))) ≤ most_weight) }
+    ensures room { OnWantOfMemory result (CopyFits interpreter.old.workspace (act.Use name) (plain_answer answer)) }
     ensures sound { IfOk result (IsFlow interpreter.new) }
     ensures within { IfOk result (StaysWithin interpreter.old e interpreter.new) }
 {
@@ -75,7 +76,8 @@ fn bring_value(
     interpreter.give(e, StackValue::Named(name))
 }
 
-// The value of a use whose items are replaced: it is the own copy too.
+// The value of a use whose items are replaced: it is the own copy too. WS FULL where the workspace would weigh too much with
+// it, also where there is no memory.
 fn bring_items(
     interpreter: &mut Interpreter,
     e: Evaluation,
@@ -88,6 +90,7 @@ fn bring_items(
     requires seen { is_shared_meaning (look interpreter.old.workspace name) ≡ true }
     ensures comes { Comes interpreter.old (part_gives interpreter.old e (brought (replaces name subs.items right) (plain_answer answer))) 0 interpreter.new result }
     ensures memory { OnWantOfMemory result (IsSome (answer_row (plain_answer answer)).value) }
+    ensures room { OnWantOfMemory result (CopyFits interpreter.old.workspace (act.Use name) (plain_answer answer)) }
     ensures sound { IfOk result (IsFlow interpreter.new) }
     ensures within { IfOk result (StaysWithin interpreter.old e interpreter.new) }
 {
@@ -96,7 +99,8 @@ fn bring_items(
     replace_items(interpreter, e, name, subs, right)
 }
 
-// A set was granted: the value is the own copy.
+// A set was granted: the value is the own copy. WS FULL where the workspace would weigh too much with it, also where there is
+// no memory.
 fn bring_grant(
     interpreter: &mut Interpreter,
     e: Evaluation,
@@ -107,6 +111,7 @@ fn bring_grant(
     requires sound { IsCaller interpreter.old.workspace e }
     requires seen { is_shared_meaning (look interpreter.old.workspace name) ≡ true }
     ensures comes { Comes interpreter.old (part_gives interpreter.old e (brought (sets name value (unwrap_or gives value)) granted)) 0 interpreter.new result }
+    ensures room { OnWantOfMemory result (CopyFits interpreter.old.workspace (act.Set name value) granted) }
     ensures sound { IfOk result (IsFlow interpreter.new) }
     ensures within { IfOk result (StaysWithin interpreter.old e interpreter.new) }
 {
@@ -126,6 +131,7 @@ fn bring_row(
     requires rows { AreRows interpreter.old.workspace rows }
     requires first { FirstAsksAct interpreter.old.workspace (rows_left rows) }
     ensures comes { Comes interpreter.old (part_gives interpreter.old e (rows_brought rows.numbers.items (rows_left rows) rows.shape.items (plain_answer answer))) 0 interpreter.new result }
+    ensures refused { IfErr result (λ why. why ≡ fail.WantOfMemory) }
     ensures sound { IfOk result (IsFlow interpreter.new) }
     ensures within { IfOk result (StaysWithin interpreter.old e interpreter.new) }
 {

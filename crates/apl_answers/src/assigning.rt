@@ -1,39 +1,92 @@
-ghost use Rattle.std.specs.Prelude.{◌≡◌, ◌≢◌, ◌≤◌, Some, true, false, IfOk, IsOk, unwrap_or};
+ghost use Rattle.std.specs.Prelude.{◌≡◌, ◌≢◌, ◌≤◌, ◌∷◌, List, Some, true, false, IfErr, IfOk, IsOk, unwrap_or};
 ghost use Rattle.std.specs.Option.{option_copied};
 ghost use Rattle.apl_workspace.specs.Limits.{most_weight};
 ghost use Rattle.apl_workspace.specs.Meaning.{is_shared_meaning, shared_copy};
-ghost use Rattle.apl_workspace.specs.Workspace.{assigned, is_assignable, look, workspace_weight};
+ghost use Rattle.apl_workspace.specs.Workspace.{IsNotAssigned, assigned, is_assignable, look, workspace_weight};
 ghost use Rattle.apl_workspace.specs.declared.meaning.Meaning.TheVariants as meaning;
 ghost use Rattle.apl_arrays.specs.Array.{PlainArray};
+ghost use Rattle.apl_arrays.specs.declared.report.Fail.TheVariants as fail;
 ghost use Rattle.apl_items.specs.Places.{OnWantOfMemory};
 ghost use Rattle.apl_selection.specs.Assignment.{assign_of};
 ghost use Rattle.apl_meaning.specs.Nodes.{assign_step, items_step, popped};
 ghost use Rattle.apl_values.specs.Pending.{assigned_giving, replaced};
+ghost use Rattle.apl_values.specs.Values.{IsStackValue, stack_value};
 ghost use Rattle.apl_statements.specs.Moves.{Comes, part_gives, part_takes};
 ghost use Rattle.apl_statements.specs.Sound.{IsCaller, IsFlow};
-ghost use Rattle.apl_statements.specs.Holding.{stack_value_given};
+ghost use Rattle.apl_statements.specs.Holding.{parts_of, stack_value_given, stack_values};
 ghost use Rattle.apl_statements.specs.Work.{StaysWithin};
 
-use crate::changing::assign_value;
-use apl_arrays::{Array, Fail, Name, Report};
+use crate::changing::{assign_value, not_assigned};
+use apl_arrays::{Array, Fail, Name, Report, WantOfMemory};
 use apl_selection::{Subs, index_assign};
 use apl_statements::{Evaluation, Flow, Interpreter};
-use apl_values::{ActPurpose, StackValue};
+use apl_values::{ActPurpose, StackValue, array_of};
 use apl_workspace::Seen;
 use line_trees::Places;
 
 /// An assignment of the newest value: a shared name is set; SYNTAX ERROR for a label or a function; else WS FULL where
-/// the workspace would weigh too much.
+/// the workspace would weigh too much, each also where there is no memory.
 pub fn assign(interpreter: &mut Interpreter, e: Evaluation, name: Name) -> Result<Flow, Fail>
     requires sound { IsCaller interpreter.old.workspace e }
     ensures comes { Comes interpreter.old (part_takes interpreter.old e (assign_step name)) 0 interpreter.new result }
+    ensures memory { OnWantOfMemory result (is_assignable (look interpreter.old.workspace name) ≡ true) }
+    ensures room { is_shared_meaning (look interpreter.old.workspace name) ≡ false → (value : PlainArray) (values : List PlainArray) → stack_values interpreter.old.workspace e ≡ value ∷ values
+        → OnWantOfMemory result (workspace_weight (assigned interpreter.old.workspace name value) ≤ most_weight) }
     ensures sound { IfOk result (IsFlow interpreter.new) }
     ensures within { IfOk result (StaysWithin interpreter.old e interpreter.new) }
 {
     let mut e = e;
     let held = e.take()?;
-    let right = interpreter.owned(&e, held)?;
+    let right = right_side(interpreter, &e, held, &name)?;
     put(interpreter, e, name, right, None)
+}
+
+// A value that is to be assigned to a name, as an array of its own. Where there is no memory for it, what the assignment would
+// tell comes first, unless the name is shared.
+fn right_side(
+    interpreter: &Interpreter,
+    e: &Evaluation,
+    held: StackValue,
+    name: &Name,
+) -> Result<Array, Fail>
+    requires { IsStackValue interpreter.now.workspace (parts_of e.now) held }
+    ensures value { IfOk result (λ right. right ≡ stack_value interpreter.now.workspace (parts_of e.now) held) }
+    ensures shared { is_shared_meaning (look interpreter.now.workspace name.now) ≡ true → IfErr result (λ why. why ≡ fail.WantOfMemory) }
+    ensures other { is_shared_meaning (look interpreter.now.workspace name.now) ≡ false
+        → IfErr result (IsNotAssigned false (is_assignable (look interpreter.now.workspace name.now)) (assigned interpreter.now.workspace name.now (stack_value interpreter.now.workspace (parts_of e.now) held))) }
+{
+    match held {
+        StackValue::Made(array) => Ok(array),
+        other => copied_for(
+            interpreter,
+            name,
+            array_of(&other, e.parts(), &interpreter.workspace),
+        ),
+    }
+}
+
+// A copy of a value that is to be assigned to a name; the same holds of it.
+fn copied_for(interpreter: &Interpreter, name: &Name, value: &Array) -> Result<Array, Fail>
+    ensures value { IfOk result (λ copy. copy ≡ value.now) }
+    ensures shared { is_shared_meaning (look interpreter.now.workspace name.now) ≡ true → IfErr result (λ why. why ≡ fail.WantOfMemory) }
+    ensures other { is_shared_meaning (look interpreter.now.workspace name.now) ≡ false → IfErr result (IsNotAssigned false (is_assignable (look interpreter.now.workspace name.now)) (assigned interpreter.now.workspace name.now value.now)) }
+{
+    match value.copy(interpreter.alloc) {
+        Ok(copy) => Ok(copy),
+        Err(WantOfMemory) => Err(not_copied(interpreter, name, value)),
+    }
+}
+
+// Why a value was not copied for a name: what the assignment would tell comes first, unless the name is shared.
+fn not_copied(interpreter: &Interpreter, name: &Name, value: &Array) -> Fail
+    ensures shared { is_shared_meaning (look interpreter.now.workspace name.now) ≡ true → result ≡ fail.WantOfMemory }
+    ensures other { is_shared_meaning (look interpreter.now.workspace name.now) ≡ false → IsNotAssigned false (is_assignable (look interpreter.now.workspace name.now)) (assigned interpreter.now.workspace name.now value.now) result }
+{
+    if is_seen_shared(interpreter, name) {
+        Fail::WantOfMemory
+    } else {
+        not_assigned(&interpreter.workspace, name, value)
+    }
 }
 
 /// A name gets a value; what the assignment gives is another value where there is one. SYNTAX ERROR for a label or a function,

@@ -45,9 +45,9 @@ pub fn assign_value(
     }
 }
 
-// Why a name got no value where there was no memory: a label or a function takes none, and the workspace may weigh too much
-// with it.
-fn not_assigned(workspace: &Workspace, name: &Name, value: &Array) -> Fail
+/// Why a name got no value where there was no memory: a label or a function takes none, and the workspace may weigh too much
+/// with it.
+pub fn not_assigned(workspace: &Workspace, name: &Name, value: &Array) -> Fail
     ensures { IsNotAssigned false (is_assignable (look workspace.now name.now)) (assigned workspace.now name.now value.now) result }
 {
     if takes_values(workspace, name) {

@@ -5,7 +5,7 @@ ghost use Rattle.apl_arrays.specs.List.{glyphs_in};
 ghost use Rattle.apl_items.specs.Places.{OnWantOfMemory};
 ghost use Rattle.line_trees.specs.Trees.{line_tree_of};
 ghost use Rattle.apl_workspace.specs.Limits.{most_depth};
-ghost use Rattle.apl_workspace.specs.Workspace.{empty_workspace, look};
+ghost use Rattle.apl_workspace.specs.Workspace.{IsNotEntered, empty_workspace, look, with_frame};
 ghost use Rattle.apl_arrays.specs.declared.report.Report.TheVariants as report;
 ghost use Rattle.apl_meaning.specs.Calls.{call, entering, result_of};
 ghost use Rattle.apl_meaning.specs.Meaning.{ran};
@@ -151,7 +151,8 @@ fn is_too_deep(interpreter: &Interpreter) -> bool
     interpreter.workspace.depth() >= DEPTH_LIMIT
 }
 
-// A function has its frame, and its caller waits under it. There is room for the caller before there is a frame.
+// A function has its frame, and its caller waits under it. WS FULL where the workspace would weigh too much with the frame,
+// for which memory is taken first. There is room for the caller before there is a frame.
 fn enter(
     interpreter: &mut Interpreter,
     caller: Evaluation,
@@ -160,7 +161,9 @@ fn enter(
 ) -> Result<(), Fail>
     requires settled { IsCaller empty_workspace caller }
     requires takes { takes_by (look interpreter.old.workspace name) args ≡ true }
+    requires shallow { length interpreter.old.workspace.frames < most_depth }
     ensures done { HasDone interpreter.old (λ s. entering name args s) interpreter.new result }
+    ensures refused { IfErr result (IsNotEntered interpreter.old.workspace (with_frame interpreter.old.workspace name args)) }
     ensures stack { OnOk result (interpreter.new.stack ≡ at_line (function_by (look interpreter.old.workspace name)) 0 (caller_of empty_workspace (here interpreter.old) caller) ∷ interpreter.old.stack) }
     ensures beside { OnOk result (interpreter.new ≡ record interpreter.old { workspace = interpreter.new.workspace; stack = interpreter.new.stack }) }
 {

@@ -3,9 +3,12 @@ use Rattle.std.proofs.Common.{◌≡◌, ℕ, ◌+◌, Bool, true, List, [], sym
 use Rattle.std.specs.Prelude.{ℤ, Option, Result, Ok, Err, IsOk, if◌then◌else◌}
 use Rattle.std.proofs.lemmas.Bool.{false≢true}
 use Rattle.apl_arrays.specs.Array.{PlainArray}
+use Rattle.apl_arrays.specs.declared.report.Fail.{Fail}
+use Rattle.apl_arrays.specs.declared.report.Fail.TheVariants as fail
 use Rattle.apl_arrays.specs.declared.report.Report.{Report}
 use Rattle.apl_arrays.specs.declared.report.Report.TheVariants.{Syntax}
 use Rattle.apl_verbs.specs.declared.verb.Verb.{Verb}
+use Rattle.apl_items.specs.Places.{OnWantOfMemory}
 use Rattle.operator_rules.specs.Apply.{applied}
 use Rattle.apl_workspace.specs.Workspace.{look}
 use Rattle.apl_workspace.specs.declared.meaning.Meaning.{Meaning}
@@ -45,3 +48,9 @@ applied_free m f left right axis may is asked count taken =
     let s : State = state_at m asked count taken [] in
     subst (λ (b : Bool). IsNoReport (if b then outcome_of (applied f left right axis) (record s { applications = s.applications + 1 }) else refuses Syntax s)) (sym may)
     (answer_there (applied f left right axis) (record s { applications = s.applications + 1 }) is)
+
+-- two things hold where memory ran out
+pub both_on_want : {T : Type 0} (r : Result T Fail) (one other : Type 0) → OnWantOfMemory r one → OnWantOfMemory r other → OnWantOfMemory r (one × other)
+both_on_want (Ok done) one other h k = tt
+both_on_want (Err (fail.Report report)) one other h k = tt
+both_on_want (Err fail.WantOfMemory) one other h k = (h, k)

@@ -1,5 +1,5 @@
 -- A machine as plain data, what is still to come of it, and what its calls change.
-use Rattle.std.specs.Prelude.{◌≡◌, ℕ, List, [], None}
+use Rattle.std.specs.Prelude.{◌≡◌, ◌<◌, ℕ, false, List, [], None}
 use Rattle.apl_arrays.specs.declared.report.Report.{Report}
 use Rattle.apl_workspace.specs.Workspace.{PlainWorkspace}
 use Rattle.line_trees.specs.Parsing.{PlainTree}
@@ -10,13 +10,14 @@ use Rattle.sv_events.specs.declared.event.Act.{Act}
 use Rattle.apl_meaning.specs.Answers.{report_of_kind}
 use Rattle.apl_meaning.specs.State.{State, Outcome, gives, and_then}
 use Rattle.apl_meaning.specs.Tasks.{Next, goes_on, immediate, begun}
-use Rattle.apl_meaning.specs.Statements.{line_outcome}
+use Rattle.apl_meaning.specs.Statements.{is_misplaced, line_outcome}
 use Rattle.apl_meaning.specs.Meaning.{most_statements, ran}
 use Rattle.apl_values.specs.Parts.{reading_tree}
 use Rattle.apl_values.specs.Pending.{PlainActPurpose, act_for_purpose, act_asked_for, brought_by, plain_act_purpose}
 use Rattle.apl_statements.specs.Evaluating.{caller_of}
 use Rattle.apl_statements.specs.Interpreter.{PlainInterpreter, at_rest_on}
 use Rattle.apl_statements.specs.Stack.{PlainCaller, PlainWaiting, behind, carried_on}
+use Rattle.apl_statements.specs.Wants.{CopyFits}
 use Rattle.apl_calls.specs.Ended.{ended_by}
 use Rattle.apl_machine.specs.declared.machine.Stage.{Stage}
 use Rattle.apl_machine.specs.declared.machine.Stage.TheVariants as stage
@@ -76,13 +77,13 @@ IsOpenIn w lost asked = ⊥
 abbrev pub IsOpenAct : PlainMachine → Act → Type 0
 IsOpenAct m asked = IsOpenIn m.interpreter.workspace m.stage asked
 
--- memory may run out in a stage before a report is told: not where an answer ends the line
-abbrev pub MayWantMemory : PlainStage → Type 0
-MayWantMemory idle = Unit {0}
-MayWantMemory (begins tree) = Unit {0}
-MayWantMemory (is_open for_this caller) = Unit {0}
-MayWantMemory (has_answer answer for_this caller) = report_of_kind (answer_row answer).row.kind ≡ None
-MayWantMemory lost = Unit {0}
+-- memory may run out in a stage before a report is told: not where no statement may be begun or the line may not stand there, nor where an answer ends the line, or brings an own copy that does not fit
+abbrev pub MayWantMemory : PlainInterpreter → PlainStage → Type 0
+MayWantMemory m idle = Unit {0}
+MayWantMemory m (begins tree) = (0 < m.statements) × (is_misplaced immediate (line_tree_of tree) ≡ false)
+MayWantMemory m (is_open for_this caller) = Unit {0}
+MayWantMemory m (has_answer answer for_this caller) = (report_of_kind (answer_row answer).row.kind ≡ None) × CopyFits m.workspace (act_for_purpose for_this m.workspace) answer
+MayWantMemory m lost = Unit {0}
 
 -- a machine may run: a line is to begin, or an act has its answer; one that is lost may too, and answers so
 abbrev pub MayRun : PlainStage → Type 0

@@ -1,6 +1,7 @@
 -- The next part of a statement where it only gives a value.
-use Rattle.std.specs.Prelude.{◌≡◌, ◌<◌, ◌+◌, Bool, true, false, Some}
+use Rattle.std.specs.Prelude.{◌≡◌, ◌≢◌, ◌<◌, ◌+◌, Bool, true, false, Some}
 use Rattle.apl_arrays.specs.Array.{PlainArray}
+use Rattle.apl_workspace.specs.Workspace.{is_assignable}
 use Rattle.apl_workspace.specs.declared.meaning.Meaning.{Meaning}
 use Rattle.apl_workspace.specs.declared.meaning.Meaning.TheVariants as meaning
 use Rattle.apl_meaning.specs.State.{gives}
@@ -23,6 +24,11 @@ pub record IsNextStackValue (m : PlainInterpreter) (e : Evaluation) (held : Stac
   pub there : e.is_wanting ≡ false
   pub is_held : IsStackValue m.workspace (parts_of e) held
   pub moves : Moves m (λ s. onward (evaluation_of m.workspace e) m.stack s) 0 m (part_gives m (record e { at = e.at + 1 }) (λ s. gives (Some (stack_value m.workspace (parts_of e) held)) s))
+
+-- what a name stands for takes a value; where items of it are replaced, it stands for something
+abbrev pub MayBeAssigned : Bool → Meaning → Type 0
+MayBeAssigned false seen = is_assignable seen ≡ true
+MayBeAssigned true seen = seen ≢ meaning.Nothing
 
 -- a part was done, or the statement is as it was
 abbrev pub HasPassed : Evaluation → Evaluation → Bool → Type 0

@@ -1,6 +1,7 @@
 ghost use Rattle.std.specs.Prelude.{◌≡◌, ◌-◌, ◌≤◌, [], ◌∷◌, Err, IfOk, IsErr, IsOk, OnErr, OnOk};
 ghost use Rattle.apl_arrays.specs.declared.report.Fail.TheVariants as fail;
 ghost use Rattle.apl_items.specs.Places.{OnWantOfMemory};
+ghost use Rattle.apl_workspace.specs.Workspace.{empty_workspace};
 ghost use Rattle.line_trees.specs.Parsing.{plain_tree};
 ghost use Rattle.line_trees.specs.Trees.{line_tree_of};
 ghost use Rattle.sv_events.specs.Answer.{plain_answer};
@@ -150,6 +151,7 @@ impl Machine {
         requires { IsIdle self.old }
         ensures taken { result ≡ self.old.interpreter.workspace }
         ensures lines { self.new.interpreter.output ≡ self.old.interpreter.output }
+        ensures left { self.new.interpreter ≡ record self.old.interpreter { workspace = empty_workspace } }
         ensures idle { IsIdle self.new }
     {
         self.stage = Stage::Idle;
@@ -177,13 +179,13 @@ impl Machine {
         run_from(&mut self.interpreter, flow, steps)
     }
 
-    // What is done first: the line is begun, or an act has its answer. The report of an answer that ends the line comes also where
-    // there is no memory.
+    // What is done first: the line is begun, or an act has its answer. A report of a line that may not begin, that of an answer
+    // which ends the line, and WS FULL where an own copy does not fit, come also where there is no memory.
     fn first_flow(&mut self) -> Result<Flow, Fail>
         requires { MayRun self.old.stage }
         ensures comes { Comes self.old.interpreter (still_to_come self.old) 0 self.new.interpreter result }
         ensures sound { IfOk result (IsFlow self.new.interpreter) }
-        ensures memory { OnWantOfMemory result (MayWantMemory self.old.stage) }
+        ensures memory { OnWantOfMemory result (MayWantMemory self.old.interpreter self.old.stage) }
         ensures stays_lost { self.old.stage ≡ lost → result ≡ Err fail.WantOfMemory }
         ensures lost { self.new.stage ≡ lost }
     {

@@ -1,4 +1,4 @@
-ghost use Rattle.std.specs.Prelude.{◌≡◌, ◌+◌, ◌-◌, ◌<◌, ◌≤◌, None, true, false, IfErr, IfOk, IfSome, OnOk, length, option_map, slice_get};
+ghost use Rattle.std.specs.Prelude.{◌≡◌, ◌+◌, ◌-◌, ◌<◌, ◌≤◌, None, true, false, IfErr, IfOk, IfSome, OnOk, is_some, length, option_map, slice_get};
 ghost use Rattle.apl_arrays.specs.declared.report.Fail.TheVariants as fail;
 ghost use Rattle.apl_arrays.specs.declared.report.Report.TheVariants as report;
 ghost use Rattle.apl_items.specs.Places.{OnWantOfMemory};
@@ -15,7 +15,7 @@ ghost use Rattle.apl_statements.specs.Holding.{parts_of};
 ghost use Rattle.apl_statements.specs.Wants.{NoReportIsDue};
 ghost use Rattle.apl_statements.specs.Work.{Falls, StaysWithin, TakesAStep};
 ghost use Rattle.apl_statements.specs.declared.flow.Flow.TheVariants as flow;
-ghost use Rattle.apl_machine.specs.Nexts.{HasPassed, IsNextStackValue, IsValueSeen};
+ghost use Rattle.apl_machine.specs.Nexts.{HasPassed, IsNextStackValue, IsValueSeen, MayBeAssigned};
 
 use crate::applying::perform;
 use apl_answers::{assign, assign_items};
@@ -197,7 +197,7 @@ fn step<L: Ledger>(
     }
 }
 
-// An assignment to a name, or to its items.
+// An assignment to a name, or to its items. What the name cannot take ends the line also where there is no memory.
 fn assign_to(
     interpreter: &mut Interpreter,
     e: Evaluation,
@@ -206,6 +206,7 @@ fn assign_to(
 ) -> Result<Flow, Fail>
     requires sound { IsCaller interpreter.old.workspace e }
     ensures comes { Comes interpreter.old (part_takes interpreter.old e (assignment_step name (option_map (λ places. places.items) places))) 0 interpreter.new result }
+    ensures memory { OnWantOfMemory result (MayBeAssigned (is_some places) (look interpreter.old.workspace name)) }
     ensures sound { IfOk result (IsFlow interpreter.new) }
     ensures within { IfOk result (StaysWithin interpreter.old e interpreter.new) }
 {

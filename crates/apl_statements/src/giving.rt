@@ -22,6 +22,7 @@ impl Interpreter {
         requires sound { IsCaller self.now.workspace e }
         requires value { IsStackValue self.now.workspace (parts_of e) value }
         ensures comes { Comes self.now (part_gives self.now e (λ s. gives (Some (stack_value self.now.workspace (parts_of e) value)) s)) 0 self.now result }
+        ensures refused { IfErr result (λ why. why ≡ fail.WantOfMemory) }
         ensures sound { IfOk result (IsFlow self.now) }
         ensures within { IfOk result (StaysWithin self.now e self.now) }
     {
@@ -35,6 +36,7 @@ impl Interpreter {
         requires sound { IsCaller self.now.workspace e }
         requires pending { IsPending self.now.workspace pending }
         ensures comes { Comes self.now (part_gives self.now e (act_asked_for (plain_act_purpose pending))) 0 self.now result }
+        ensures refused { IfErr result (λ why. why ≡ fail.WantOfMemory) }
         ensures sound { IfOk result (IsFlow self.now) }
         ensures within { IfOk result (StaysWithin self.now e self.now) }
     {
@@ -56,6 +58,7 @@ impl Interpreter {
         requires sound { IsCaller self.now.workspace e }
         requires rows { AreRows self.now.workspace rows }
         ensures comes { Comes self.now (part_gives self.now e (rest_of_rows rows.numbers.items (rows_left rows) rows.shape.items)) 0 self.now result }
+        ensures refused { IfErr result (λ why. why ≡ fail.WantOfMemory) }
         ensures sound { IfOk result (IsFlow self.now) }
         ensures within { IfOk result (StaysWithin self.now e self.now) }
     {

@@ -7,6 +7,6 @@ mod laws;
 mod line_kind;
 mod terminal;
 
-pub use laws::refused_lines_print_alone;
+pub use laws::{functions_opened_are_closed_by_the_next_line, refused_lines_print_alone};
 pub use line_kind::{is_command, is_opening};
 pub use terminal::Terminal;

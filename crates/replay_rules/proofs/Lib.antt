@@ -1,3 +1,4 @@
+pub mod FullRounds
 pub mod Retrying
 pub mod Rounds
 pub mod Serving

@@ -34,9 +34,10 @@ use Rattle.sv_rules.specs.declared.standing.Standing.{Standing}
 use Rattle.sv_story_laws.specs.StoryLaws.{IsAccessTo}
 use Rattle.sv_story_laws.proofs.AccessLemmas.{IsAccessOn-from_access}
 use Rattle.sv_story_laws.proofs.AuxiliaryLemmas.{untried}
+use Rattle.sv_story_laws.proofs.ReplyLemmas.{replies_are_to_what_the_last_use_got}
 use Rattle.sv_story_laws.proofs.WorkLemmas.{first_coupled_is_lowest}
 use Rattle.session_rules.specs.Auxiliaries.{event_of, events_of, is_use_on, partner_of, partner_on, reply_to, is_use_of, value_used}
-use Rattle.replay_rules.specs.ServingLaws.{AuxiliariesServeTheirWork, ControlsBegin, OtherWorkTellsNothing, RepliesAnswer}
+use Rattle.replay_rules.specs.ServingLaws.{AuxiliariesServeTheirWork, ControlsBegin, OtherWorkTellsNothing, RepliesAnswer, RequestsAreWhatTheLastUseGot}
 use Rattle.replay_rules.specs.Turns.{served, served_by, serving}
 
 -- ---- the offer of a control and of a reply
@@ -268,6 +269,18 @@ replies_answer users journal legal party local customer value reply due serves c
     let made : act_of (work_of journal party) (next_place journal) (Some reply) ≡ Some (act.Set local reply) = ap (λ (w : Work). act_of w (next_place journal) (Some reply)) due in
     told_with journal party (act.Set local reply) (Some (answered customer value reply)) (room_for_work journal party (next_place journal) (Some reply) (act.Set local reply) made)
     (told_reply journal party local customer value reply (replied_to users journal legal party local customer value due serves commands))
+
+pub requests_are_what_the_last_use_got : RequestsAreWhatTheLastUseGot
+requests_are_what_the_last_use_got users journal legal party local due =
+    let on = reply_is_on (is_full journal) (first_open journal party) (first_coupled journal (lacks_control journal) party) (first_coupled journal (owes_reply journal) party)
+    (to_counter journal party) (first_coupled journal (has_unseen journal) party) local due in
+    let offer = on.0 in
+    let is = (first_coupled_is_lowest journal (owes_reply journal) party offer).0 on.2 in
+    let got = replies_are_to_what_the_last_use_got users journal legal offer is.here.coupling is.here.found is.here.here in (
+      got.0,
+      ap (option_and_then (known journal)) on.2 ∙ got.1,
+      record { offer = offer; lowest = is; named = on.3; coupling = is.here.coupling; coupled = is.here.found; got = got.2 },
+    )
 
 pub others_tell_nothing : OtherWorkTellsNothing
 others_tell_nothing journal party made none is =

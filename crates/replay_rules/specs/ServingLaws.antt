@@ -7,10 +7,15 @@ use Rattle.sv_events.specs.Work.{act_of, all_controlled}
 use Rattle.sv_events.specs.declared.event.Act.{Act}
 use Rattle.sv_events.specs.declared.event.Act.TheVariants as act
 use Rattle.sv_events.specs.declared.work.Work.TheVariants as work
-use Rattle.sv_rules.specs.Entries.{Entries, is_held, kind_of, next_place}
+use Rattle.sv_rules.specs.Coupling.{coupling_now}
+use Rattle.sv_rules.specs.Entries.{Entries, is_held, kind_of, next_place, since}
 use Rattle.sv_rules.specs.Legal.{IsLegal, answer_to, journal_after}
 use Rattle.sv_rules.specs.Refused.{waits}
+use Rattle.sv_rules.specs.Standing.{standing}
 use Rattle.sv_rules.specs.Work.{work_of}
+use Rattle.sv_rules.specs.declared.coupling.Coupling.{Coupling}
+use Rattle.sv_rules.specs.declared.standing.Standing.{Standing}
+use Rattle.sv_story_laws.specs.WorkLaws.{IsLowest, LastUseGot, OwesReply}
 use Rattle.session_rules.specs.Auxiliaries.{events_of}
 use Rattle.replay_rules.specs.Turns.{served}
 
@@ -26,6 +31,21 @@ RepliesAnswer =
     (users : List ℕ) (journal : Entries) → IsLegal users journal → (party : ℕ) (local : List ℕ) (customer : ℕ) (value reply : PlainArray) → work_of journal party ≡ work.Reply local
     → customer_of journal party ≡ Some customer → request_due journal party ≡ Some value
     → events_of (journal_after journal party (act.Set local reply)) party ≡ answered customer value reply ∷ events_of journal party
+
+-- of its own coupled offers on which it owes a reply the one of the lowest place has this local name, and its last use there got this value
+pub record IsRequest (journal : Entries) (party : ℕ) (local : List ℕ) (value : PlainArray) : Type 0 where
+  pub offer : Standing
+  pub lowest : IsLowest (standing journal) (OwesReply journal party) offer
+  pub named : offer.local ≡ local
+  pub coupling : Coupling
+  pub coupled : coupling_now journal offer.place ≡ Some coupling
+  pub got : LastUseGot offer (since coupling.at journal) value
+
+-- an auxiliary that has to reply is handed what its last use got
+abbrev pub RequestsAreWhatTheLastUseGot : Type 0
+RequestsAreWhatTheLastUseGot =
+    (users : List ℕ) (journal : Entries) → IsLegal users journal → (party : ℕ) (local : List ℕ) → work_of journal party ≡ work.Reply local
+    → (value : PlainArray) × (request_due journal party ≡ Some value) × IsRequest journal party local value
 
 -- the entry of any other work is nothing to it
 abbrev pub OtherWorkTellsNothing : Type 0

@@ -1,5 +1,5 @@
 -- Worked replays.
-use Rattle.std.specs.Prelude.{ℕ, List, [], ◌∷◌, codes}
+use Rattle.std.specs.Prelude.{◌≡◌, ℕ, List, [], ◌∷◌, codes}
 use Rattle.apl_arrays.specs.Array.{PlainArray}
 use Rattle.apl_meaning.specs.Worked.{texts}
 use Rattle.bundle_text.specs.Rules.{PlainBundle}
@@ -8,7 +8,7 @@ use Rattle.sv_events.specs.Answer.{PlainAnswer}
 use Rattle.sv_rules.specs.Entries.{Entries}
 use Rattle.session_rules.specs.Run.{Dealings}
 use Rattle.replay_rules.specs.TurnLaws.{replayed}
-use Rattle.replay_rules.specs.Turns.{Participant, with_left}
+use Rattle.replay_rules.specs.Turns.{Participant, Replay, with_left}
 
 -- a user with these lines
 abbrev pub user : ℕ → List (List ℕ) → PlainUser
@@ -49,3 +49,12 @@ stuck_bundle = worked_bundle (user 1001 (codes "20 ⎕SVO 'T'" ∷ codes "1 1 1 
 -- a user that offers a name, whose line was given these answers
 abbrev pub offering_user : List PlainAnswer → Participant
 offering_user answers = record { number = 1001; lines = texts (codes "1002 ⎕SVO 'X'" ∷ []); replies = []; answers = answers }
+
+-- a replay of one user that has come to this journal
+abbrev pub alone_at : Entries → (ℕ → List PlainArray) → Participant → Replay
+alone_at journal replies user = record { journal = journal; replies = replies; users = user ∷ [] }
+
+-- a replay of one user has this journal now, and the user is this one
+pub record HasComeTo (replay : Replay) (journal : Entries) (user : Participant) : Type 0 where
+  pub entries : replay.journal ≡ journal
+  pub users : replay.users ≡ user ∷ []

@@ -9,7 +9,7 @@ pub mod worked;
 pub use laws::{one_journal_of_turns, users_take_turns};
 pub use serving_laws::{
     auxiliaries_serve_their_work, controls_begin, other_work_tells_nothing, replies_answer,
-    waiters_are_answered,
+    requests_are_what_the_last_use_got, waiters_are_answered,
 };
 pub use so_far_laws::{
     answers_are_heard, full_is_heard, held_users_wait, leavers_have_their_parts,

@@ -1,4 +1,4 @@
-ghost use Rattle.replay_rules.specs.ServingLaws.{AuxiliariesServeTheirWork, ControlsBegin, OtherWorkTellsNothing, RepliesAnswer, WaitersAreAnswered};
+ghost use Rattle.replay_rules.specs.ServingLaws.{AuxiliariesServeTheirWork, ControlsBegin, OtherWorkTellsNothing, RepliesAnswer, RequestsAreWhatTheLastUseGot, WaitersAreAnswered};
 
 /// Where an auxiliary sets a control, what answers behind it begins with the partner. The call does nothing.
 pub fn controls_begin()
@@ -8,6 +8,12 @@ pub fn controls_begin()
 /// Where an auxiliary replies, what answers behind it gave the reply to the partner's value. The call does nothing.
 pub fn replies_answer()
     ensures { RepliesAnswer }
+{}
+
+/// An auxiliary that has to reply is handed what its last use got, on the offer of the lowest place of those on which it owes a
+/// reply. The call does nothing.
+pub fn requests_are_what_the_last_use_got()
+    ensures { RequestsAreWhatTheLastUseGot }
 {}
 
 /// Any other work of an auxiliary is nothing to what answers behind it. The call does nothing.

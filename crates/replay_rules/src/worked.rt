@@ -1,5 +1,6 @@
 //! Replays at work: the journals of worked bundles, entry by entry.
-ghost use Rattle.std.specs.Prelude.{◌≡◌, [], ◌∷◌, None, Some, IsTrue, false, true, codes};
+ghost use Rattle.std.specs.Prelude.{◌≡◌, ℕ, List, [], ◌∷◌, None, Some, IsTrue, false, true, codes};
+ghost use Rattle.apl_arrays.specs.Array.{PlainArray};
 ghost use Rattle.aux_parties.specs.Auxiliaries.{clock_party, text_party};
 ghost use Rattle.auxiliaries.specs.Run.{answered, began};
 ghost use Rattle.apl_meaning.specs.Worked.{number_value, word};
@@ -11,8 +12,8 @@ ghost use Rattle.sv_events.specs.declared.event.Act.TheVariants as act;
 ghost use Rattle.sv_rules.specs.Entries.{Entries, has_left, is_full};
 ghost use Rattle.sv_rules.specs.Legal.{entry_for, retried};
 ghost use Rattle.session_rules.specs.Auxiliaries.{events_of};
-ghost use Rattle.replay_rules.specs.Turns.{turn};
-ghost use Rattle.replay_rules.specs.Worked.{worked_bundle, clock_bundle, gives, worked_journal, no_replies, offering_user, stuck_bundle, text_bundle, user};
+ghost use Rattle.replay_rules.specs.Turns.{rounds, some_user_stays, turn};
+ghost use Rattle.replay_rules.specs.Worked.{HasComeTo, alone_at, worked_bundle, clock_bundle, gives, worked_journal, no_replies, offering_user, stuck_bundle, text_bundle, user};
 
 /// Two users of one variable: after three rounds both have left, and this is the journal, the newest entry first. The call
 /// does nothing.
@@ -85,6 +86,17 @@ pub fn full_journals_refuse()
     ensures hears { (journal : Entries) → IsTrue (is_full journal) → has_left journal 1001 ≡ false → turn (1001 ∷ []) journal (offering_user []) ≡ record { journal = journal; user = offering_user (full ∷ []) } }
     ensures leaves { (journal : Entries) → has_left journal 1001 ≡ false
         → turn (1001 ∷ []) journal (offering_user (full ∷ [])) ≡ record { journal = entry_for journal 1001 act.Leave ∷ journal; user = offering_user (full ∷ []) } }
+{}
+
+/// A replay whose journal is full: in a round the auxiliaries do nothing and the user hears Full; in the next one it leaves, and
+/// the replay is over. The call does nothing.
+pub fn full_replays_end()
+    ensures heard { (journal : Entries) (replies : ℕ → List PlainArray) → IsTrue (is_full journal) → has_left journal 1001 ≡ false
+        → HasComeTo (rounds 1 (alone_at journal replies (offering_user []))) journal (offering_user (full ∷ [])) }
+    ensures left { (journal : Entries) (replies : ℕ → List PlainArray) → IsTrue (is_full journal) → has_left journal 1001 ≡ false
+        → HasComeTo (rounds 2 (alone_at journal replies (offering_user []))) (entry_for journal 1001 act.Leave ∷ journal) (offering_user (full ∷ [])) }
+    ensures over { (journal : Entries) (replies : ℕ → List PlainArray) → IsTrue (is_full journal) → has_left journal 1001 ≡ false
+        → some_user_stays (rounds 2 (alone_at journal replies (offering_user []))) ≡ false }
 {}
 
 /// Turns of an order come before the rounds, and those behind the last leave do nothing. The call does nothing.

@@ -1,6 +1,6 @@
 -- A core's journal as a history.
-use Rattle.std.proofs.Common.{◌≡◌, ℕ, ◌-◌, ◌≤◌, List, length, map, get_or, Some, option_map, refl, sym, ap, ◌∙◌, arith}
-use Rattle.std.proofs.lemmas.List.{get_or-map, length-map}
+use Rattle.std.proofs.Common.{◌≡◌, ℕ, ◌-◌, ◌≤◌, List, [], ◌∷◌, length, map, get_or, Some, option_map, refl, sym, ap, ◌∙◌, arith}
+use Rattle.std.proofs.lemmas.List.{get_or-map, length-map, reverse-append}
 use Rattle.sv_events.specs.Entry.{PlainEntry, plain_entry}
 use Rattle.sv_events.specs.declared.entry.Entry.{Entry}
 use Rattle.sv_rules.specs.Journal.{journal_of}
@@ -18,4 +18,4 @@ party_is entries place e from to is =
     ∙ ap (λ (x : PlainEntry). Some x.party) (get_or-map plain_entry entries (place - 1) e (plain_entry e) (omega arith) ∙ ap plain_entry (sym is))
 
 pub one_more_is_appended : OneMoreIsAppended
-one_more_is_appended core party act = record { one = (entry_for core.journal party act, refl, refl); appended = refl; members = refl }
+one_more_is_appended core party act = record { one = (entry_for core.journal party act, refl, refl); appended = reverse-append (entry_for core.journal party act ∷ []) core.journal; members = refl }

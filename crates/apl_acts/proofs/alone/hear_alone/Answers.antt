@@ -6,7 +6,8 @@ use Rattle.sv_events.specs.declared.row.AnswerRow.{AnswerRow}
 use Rattle.apl_items.specs.Places.{OnWantOfMemory}
 use Rattle.apl_meaning.specs.Answers.{report_of_kind, with_copy}
 use Rattle.apl_selection.proofs.WantLemmas.{on_want}
-use Rattle.apl_acts.specs.Alone.{CopyFits, answer_outcome}
+use Rattle.apl_statements.specs.Wants.{CopyFits}
+use Rattle.apl_acts.specs.Alone.{answer_outcome}
 use Rattle.apl_acts.proofs.HeardLaw.{led_as, told_on}
 use Rattle.apl_acts.proofs.alone.hear_alone.Goals as goal
 

@@ -1,7 +1,10 @@
-use Rattle.std.proofs.Common.{◌≡◌, sym, ap, subst, ◌∙◌}
+use Rattle.std.proofs.Common.{◌≡◌, ◌≤◌, sym, ap, subst, ◌∙◌}
 use Rattle.std.specs.Prelude.{Some, unwrap_or}
+use Rattle.std.proofs.lemmas.Result.{err_from_is_err_and}
+use Rattle.apl_selection.proofs.WantLemmas.{on_want}
 use Rattle.apl_arrays.specs.Array.{PlainArray}
-use Rattle.apl_workspace.specs.Workspace.{look}
+use Rattle.apl_workspace.specs.Limits.{most_weight}
+use Rattle.apl_workspace.specs.Workspace.{look, workspace_weight}
 use Rattle.apl_meaning.specs.Answers.{with_copy}
 use Rattle.apl_meaning.specs.Deeds.{value_of}
 use Rattle.apl_meaning.specs.State.{gives}
@@ -12,6 +15,7 @@ use Rattle.apl_statements.specs.declared.evaluation.Evaluation.{Evaluation}
 use Rattle.apl_statements.specs.Interpreter.{PlainInterpreter}
 use Rattle.apl_statements.specs.Holding.{parts_of}
 use Rattle.apl_statements.proofs.Renewing.{settled_sound}
+use Rattle.apl_statements.proofs.Wants.{want_exit}
 use Rattle.apl_answers.proofs.Behind.{gets, given_is_held, given_value, goes_behind}
 use Rattle.apl_answers.proofs.answering.bring_grant.Goals as goal
 
@@ -35,3 +39,12 @@ returns-clause-comes c =
     c.in_ok-renew.ensures.ok c.in_ok-renew.ensures.done c.in_ok-renew.ensures.settled
     (gets n after c.given.result other c.give.result
     (ap (stack_value n.workspace (parts_of after)) c.given.ensures ∙ given_value n.workspace (parts_of after) c.args.name c.args.gives c.args.value seen) c.give.ensures.comes)
+
+pub returns-in_err-renew-clause-room : goal.returns-in_err-renew-clause-room
+returns-in_err-renew-clause-room c =
+    let exit = err_from_is_err_and c.from_residual.result c.from_residual.ensures.1 in
+    let why : exit.0 ≡ c.in_err-renew.field-0.0 = cc exit.2 in
+    want_exit c.from_residual.result exit.0 c.in_err-renew.field-0.0 (workspace_weight (renewed c.args.name c.args.value c.args.interpreter.now.workspace) ≤ most_weight) exit.1 why c.in_err-renew.ensures.room
+
+pub returns-clause-room : goal.returns-clause-room
+returns-clause-room c = on_want c.give.result _ c.in_ok-renew.ensures.fits

@@ -1,5 +1,5 @@
 use Rattle.std.proofs.Common.{◌≡◌, ◌≤◌, ap, refl, subst, sym, ◌∙◌}
-use Rattle.std.specs.Prelude.{Err, IsSome, None, Option, Some}
+use Rattle.std.specs.Prelude.{IfSome, IsSome, None, Option, Some}
 use Rattle.std.proofs.lemmas.Result.{err_from_is_err_and}
 use Rattle.apl_selection.proofs.WantLemmas.{on_want}
 use Rattle.apl_arrays.specs.Array.{PlainArray}
@@ -58,20 +58,18 @@ returns-clause-memory c =
     on_want c.give.result (IsSome found) (subst (λ (o : Option PlainArray). IsSome o) (sym is) refl)
 
 pub returns-in_err-renew-clause-room : goal.returns-in_err-renew-clause-room
-returns-in_err-renew-clause-room c = λ (value : PlainArray) (is : (answer_row (plain_answer c.args.answer)).value ≡ Some value).
+returns-in_err-renew-clause-room c =
     let own : PlainArray = c.in_ok-value_in.field-0 in
     let found : Option PlainArray = (answer_row (plain_answer c.args.answer)).value in
-    let same : Some own ≡ Some value = sym (got_value found Value own c.in_ok-value_in.ensures) ∙ is in
-    let is_own : own ≡ value = cc in
+    let is : found ≡ Some own = got_value found Value own c.in_ok-value_in.ensures in
     let exit = err_from_is_err_and c.from_residual-in_err-renew.result c.from_residual-in_err-renew.ensures.1 in
     let why : exit.0 ≡ c.in_err-renew.field-0.0 = cc exit.2 in
-    want_exit c.from_residual-in_err-renew.result exit.0 c.in_err-renew.field-0.0 (workspace_weight (renewed c.args.name value c.args.interpreter.now.workspace) ≤ most_weight) exit.1 why
-    (subst (λ (x : PlainArray). OnWantOfMemory {T = Unit {0}} (Err c.in_err-renew.field-0.0) (workspace_weight (renewed c.args.name x c.args.interpreter.now.workspace) ≤ most_weight)) is_own c.in_err-renew.ensures.room)
+    subst (λ (o : Option PlainArray). OnWantOfMemory c.from_residual-in_err-renew.result (IfSome o (λ copy. workspace_weight (renewed c.args.name copy c.args.interpreter.now.workspace) ≤ most_weight))) (sym is)
+    (want_exit c.from_residual-in_err-renew.result exit.0 c.in_err-renew.field-0.0 (workspace_weight (renewed c.args.name own c.args.interpreter.now.workspace) ≤ most_weight) exit.1 why c.in_err-renew.ensures.room)
 
 pub returns-clause-room : goal.returns-clause-room
-returns-clause-room c = λ (value : PlainArray) (is : (answer_row (plain_answer c.args.answer)).value ≡ Some value).
+returns-clause-room c =
     let own : PlainArray = c.in_ok-value_in.field-0 in
     let found : Option PlainArray = (answer_row (plain_answer c.args.answer)).value in
-    let same : Some own ≡ Some value = sym (got_value found Value own c.in_ok-value_in.ensures) ∙ is in
-    let is_own : own ≡ value = cc in
-    on_want c.give.result _ (subst (λ (x : PlainArray). workspace_weight (renewed c.args.name x c.args.interpreter.now.workspace) ≤ most_weight) is_own c.in_ok-renew.ensures.fits)
+    let is : found ≡ Some own = got_value found Value own c.in_ok-value_in.ensures in
+    subst (λ (o : Option PlainArray). OnWantOfMemory c.give.result (IfSome o (λ copy. workspace_weight (renewed c.args.name copy c.args.interpreter.now.workspace) ≤ most_weight))) (sym is) (on_want c.give.result _ c.in_ok-renew.ensures.fits)

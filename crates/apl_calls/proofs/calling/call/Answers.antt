@@ -30,6 +30,9 @@ enter-requires-clause-settled c =
     subst (λ (x : PlainInterpreter). IsWithValues before (map (settled x.workspace) before.values.items) c.settle.new.self) c.interpreter.view_is c.in_ok-settle.ensures in
     settled_sound m.workspace empty_workspace before c.settle.new.self c.requires.sound with
 
+pub enter-requires-clause-shallow : goal.enter-requires-clause-shallow
+enter-requires-clause-shallow c = shallow most_depth (length c.args.interpreter.now.workspace.frames) (sym c.is_too_deep.ensures ∙ c.if-is_too_deep.false)
+
 pub returns-then-has_line-clause-comes : goal.returns-then-has_line-clause-comes
 returns-then-has_line-clause-comes c =
     let m : PlainInterpreter = c.args.interpreter.now in

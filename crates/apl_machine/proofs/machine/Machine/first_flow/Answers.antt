@@ -1,11 +1,11 @@
 use Rattle.std.proofs.Common.{◌≡◌, sym, subst, ◌∙◌}
 use Rattle.apl_items.specs.Places.{OnWantOfMemory}
-use Rattle.apl_selection.proofs.WantLemmas.{on_want}
 use Rattle.apl_statements.specs.Interpreter.{PlainInterpreter, here}
 use Rattle.apl_statements.specs.Moves.{Comes}
 use Rattle.apl_machine.specs.declared.machine.Stage.{Stage}
 use Rattle.apl_machine.specs.declared.machine.Stage.TheVariants as stage
 use Rattle.apl_machine.specs.Machine.{MayWantMemory, PlainMachine, plain_stage, stage_to_come, still_to_come}
+use Rattle.apl_machine.proofs.WantParts.{both_on_want}
 use Rattle.apl_machine.proofs.machine.Machine.first_flow.Goals as goal
 
 pub returns-in-Begins-clause-comes : goal.returns-in-Begins-clause-comes
@@ -19,12 +19,12 @@ pub returns-in-Begins-clause-memory : goal.returns-in-Begins-clause-memory
 returns-in-Begins-clause-memory c =
     let i : PlainInterpreter = c.self.inside.interpreter in
     let is : stage.Begins c.in-Begins.reading ≡ c.self.inside.stage = sym c.in-Begins.is ∙ c.replace.ensures.value in
-    subst (λ (x : PlainMachine). OnWantOfMemory c.begin_input.result (MayWantMemory x.stage)) c.self.view_is
-    (subst (λ (st : Stage). OnWantOfMemory c.begin_input.result (MayWantMemory (plain_stage i.workspace (here i) st))) is (on_want c.begin_input.result (Unit {0}) tt))
+    subst (λ (x : PlainMachine). OnWantOfMemory c.begin_input.result (MayWantMemory x.interpreter x.stage)) c.self.view_is
+    (subst (λ (st : Stage). OnWantOfMemory c.begin_input.result (MayWantMemory i (plain_stage i.workspace (here i) st))) is c.begin_input.ensures.memory)
 
 pub returns-in-Answered-clause-memory : goal.returns-in-Answered-clause-memory
 returns-in-Answered-clause-memory c =
     let i : PlainInterpreter = c.self.inside.interpreter in
     let is : stage.Answered c.in-Answered.answer c.in-Answered.pending c.in-Answered.evaluation ≡ c.self.inside.stage = sym c.in-Answered.is ∙ c.replace.ensures.value in
-    subst (λ (x : PlainMachine). OnWantOfMemory c.bring.result (MayWantMemory x.stage)) c.self.view_is
-    (subst (λ (st : Stage). OnWantOfMemory c.bring.result (MayWantMemory (plain_stage i.workspace (here i) st))) is c.bring.ensures.memory)
+    subst (λ (x : PlainMachine). OnWantOfMemory c.bring.result (MayWantMemory x.interpreter x.stage)) c.self.view_is
+    (subst (λ (st : Stage). OnWantOfMemory c.bring.result (MayWantMemory i (plain_stage i.workspace (here i) st))) is (both_on_want c.bring.result _ _ c.bring.ensures.memory c.bring.ensures.room))
