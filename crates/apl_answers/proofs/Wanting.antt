@@ -114,13 +114,13 @@ row_brings_no_copy w [] answer = tt
 row_brings_no_copy w (row ∷ rows) answer = deed_brings_no_copy w row.1 row.0 answer
 
 -- a name for which a value could not be copied takes one
-pub not_copied_takes : {T : Type 0} (why : Fail) (seen : Meaning) (w : PlainWorkspace) (shared : Bool) → is_shared_meaning seen ≡ shared → (shared ≡ false → IsNotAssigned false (is_assignable seen) w why)
+pub not_copied_takes : (T : Type 0) (why : Fail) (seen : Meaning) (w : PlainWorkspace) (shared : Bool) → is_shared_meaning seen ≡ shared → (shared ≡ false → IsNotAssigned false (is_assignable seen) w why)
     → OnWantOfMemory {T = T} (Err why) (is_assignable seen ≡ true)
-not_copied_takes (fail.Report report) seen w shared is other = tt
-not_copied_takes fail.WantOfMemory seen w true is other = shared_takes seen is
-not_copied_takes fail.WantOfMemory seen w false is other = (other refl).0
+not_copied_takes T (fail.Report report) seen w shared is other = tt
+not_copied_takes T fail.WantOfMemory seen w true is other = shared_takes seen is
+not_copied_takes T fail.WantOfMemory seen w false is other = (other refl).0
 
 -- and the value would fit
-pub not_copied_fits : {T : Type 0} (why : Fail) (takes : Bool) (w : PlainWorkspace) → IsNotAssigned false takes w why → OnWantOfMemory {T = T} (Err why) (workspace_weight w ≤ most_weight)
-not_copied_fits (fail.Report report) takes w refused = tt
-not_copied_fits fail.WantOfMemory takes w refused = refused.2
+pub not_copied_fits : (T : Type 0) (why : Fail) (takes : Bool) (w : PlainWorkspace) → IsNotAssigned false takes w why → OnWantOfMemory {T = T} (Err why) (workspace_weight w ≤ most_weight)
+not_copied_fits T (fail.Report report) takes w refused = tt
+not_copied_fits T fail.WantOfMemory takes w refused = refused.2

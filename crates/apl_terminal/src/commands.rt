@@ -4,7 +4,7 @@ ghost use Rattle.apl_workspace.specs.Workspace.{global_in, is_addressee, is_shar
 ghost use Rattle.sv_events.specs.Answer.{plain_answer};
 ghost use Rattle.ws_commands.specs.Finish.{MayBeMade, MayComeIn, workspace_brought};
 ghost use Rattle.ws_commands.specs.Reading.{step_of};
-ghost use Rattle.ws_commands.specs.Shelf.{Takes};
+ghost use Rattle.ws_commands.specs.Shelf.{TakesStep};
 ghost use Rattle.ws_commands.specs.Todo.{given_up, plain_change, plain_todo};
 ghost use Rattle.apl_terminal.specs.Commands.{finishing, naming_alone, terminal_sharing, telling, unsharing, value_kept};
 
@@ -25,7 +25,7 @@ impl Terminal {
         user: u32,
         shelf: &mut K,
     ) -> Result<Todo, WantOfMemory>
-        ensures todo { IfOk result (λ todo. Takes K.told K.faults user (step_of line.now.items self.now.workspace self.now.id) shelf.old (plain_todo todo) shelf.new) }
+        ensures todo { IfOk result (λ todo. TakesStep K.told K.faults user (step_of line.now.items self.now.workspace self.now.id) shelf.old (plain_todo todo) shelf.new) }
         ensures retract { IfOk result (λ todo. todo.retract.items ≡ given_up (plain_change todo.change) self.now.workspace) }
         ensures comes { IfOk result (λ todo. IfSome (workspace_brought (plain_change todo.change)) (MayComeIn self.now.workspace)) }
         ensures counted { K.faults shelf.old ≤ K.faults shelf.new }

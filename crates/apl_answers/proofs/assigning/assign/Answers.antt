@@ -66,7 +66,7 @@ returns-in_err-right-clause-memory c =
     let exit = err_from_is_err_and c.from_residual-in_err-right.result c.from_residual-in_err-right.ensures.1 in
     let why : exit.0 ≡ c.in_err-right.field-0.0 = cc exit.2 in
     want_exit c.from_residual-in_err-right.result exit.0 c.in_err-right.field-0.0 (is_assignable (look m.workspace c.args.name) ≡ true) exit.1 why
-    (not_copied_takes c.in_err-right.field-0.0 (look m.workspace c.args.name) (assigned m.workspace c.args.name right) (is_shared_meaning (look m.workspace c.args.name)) refl c.in_err-right.ensures.other)
+    (not_copied_takes PlainArray c.in_err-right.field-0.0 (look m.workspace c.args.name) (assigned m.workspace c.args.name right) (is_shared_meaning (look m.workspace c.args.name)) refl c.in_err-right.ensures.other)
 
 pub returns-in_err-right-clause-room : goal.returns-in_err-right-clause-room
 returns-in_err-right-clause-room c = λ apart value values are.
@@ -77,7 +77,7 @@ returns-in_err-right-clause-room c = λ apart value values are.
     want_exit c.from_residual-in_err-right.result exit.0 c.in_err-right.field-0.0 (workspace_weight (assigned m.workspace c.args.name value) ≤ most_weight) exit.1 why
     (subst (λ (x : PlainArray). OnWantOfMemory {T = PlainArray} (Err c.in_err-right.field-0.0) (workspace_weight (assigned m.workspace c.args.name x) ≤ most_weight))
     (newest (goal.at.returns-in_err-right-clause-room c).In_ok-held value values are)
-    (not_copied_fits c.in_err-right.field-0.0 (is_assignable (look m.workspace c.args.name)) (assigned m.workspace c.args.name right) (c.in_err-right.ensures.other apart)))
+    (not_copied_fits PlainArray c.in_err-right.field-0.0 (is_assignable (look m.workspace c.args.name)) (assigned m.workspace c.args.name right) (c.in_err-right.ensures.other apart)))
 
 pub returns-clause-room : goal.returns-clause-room
 returns-clause-room c = λ apart value values are.
