@@ -53,7 +53,8 @@ fn command_line<'a>(alloc: Global) -> Result<Command<'a>, AllocError>
         .no_binary_name(true)
         .disable_help_flag(true);
     let with_replay = bare.arg(flag(alloc, "replay"))?;
-    let with_library = with_replay.arg(valued(alloc, "library"))?;
+    let with_workers = with_replay.arg(valued(alloc, "workers"))?;
+    let with_library = with_workers.arg(valued(alloc, "library"))?;
     let with_text = with_library.arg(valued(alloc, "text"))?;
     let with_clock = with_text.arg(flag(alloc, "clock"))?;
     let with_load = with_clock.arg(valued(alloc, "load"))?;
@@ -83,6 +84,7 @@ fn valued<'a>(alloc: Global, name: &'a str) -> Arg<'a>
 // What a parse found.
 fn words_in<'a>(matches: ArgMatches<'a>) -> Written<'a>
     ensures replay { IsFlagOf (one_text (found_of matches.entry) (codes "replay")) result.replay }
+    ensures workers { option_map (λ count. count.now) result.workers ≡ first_value (found_of matches.entry) (codes "workers") }
     ensures library { option_map (λ place. place.now) result.library ≡ first_value (found_of matches.entry) (codes "library") }
     ensures text { option_map (λ place. place.now) result.text ≡ first_value (found_of matches.entry) (codes "text") }
     ensures clock { IsFlagOf (one_text (found_of matches.entry) (codes "clock")) result.clock }
@@ -92,6 +94,7 @@ fn words_in<'a>(matches: ArgMatches<'a>) -> Written<'a>
 {
     Written {
         replay: flag_in(&matches, "replay"),
+        workers: matches.get_str("workers"),
         library: matches.get_str("library"),
         text: matches.get_str("text"),
         clock: flag_in(&matches, "clock"),

@@ -7,6 +7,8 @@ use std::fmt;
 pub struct Words<'a> {
     /// `--replay`: the bundle is run on one thread.
     pub replay: bool,
+    /// `--workers N`: the bundle is run on threads, with so many workers.
+    pub workers: Option<u32>,
     /// `--library DIR`: workspaces are kept under this place.
     pub library: Option<&'a str>,
     /// `--text DIR`: text files are read and written under this place.

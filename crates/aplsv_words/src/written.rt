@@ -3,6 +3,8 @@
 pub struct Written<'a> {
     /// `--replay` was written.
     pub replay: bool,
+    /// `--workers N`
+    pub workers: Option<&'a str>,
     /// `--library DIR`
     pub library: Option<&'a str>,
     /// `--text DIR`
