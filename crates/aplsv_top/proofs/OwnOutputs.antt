@@ -112,10 +112,10 @@ module _ (one_text : OneText) (one_list : OneList) (one_transcript : PartsMakeOn
 
 module _ (one_text : OneText) (one_list : OneList) (one_transcript : PartsMakeOneTranscript) {C T K : Type 0} (ticks : C → Option Ticks) (clock_faults : C → ℕ) (text_told : T → Option (Told (List ℕ))) (text_faults : T → ℕ)
     (told : K → Option (Told (ℕ × List ℕ))) (faults : K → ℕ) where
-  -- a run for which no word names a device
+  -- a run in turns for which no word names a device
   abbrev OwnRun : Bool → Bool → PlainBundle → Entries → List PlainTranscript → C → C → T → T → List K → List K → Type 0
   OwnRun components relay bundle journal transcripts clock clock_then files files_then shelves shelves_then =
-      NamedRun ticks clock_faults text_told text_faults told faults None components relay false None bundle journal transcripts clock clock_then files files_then shelves shelves_then
+      NamedRun true ticks clock_faults text_told text_faults told faults None components relay false None bundle journal transcripts clock clock_then files files_then shelves shelves_then
 
   one_own : (components relay : Bool) (bundle : PlainBundle) → IsBundle bundle → (journal other : Entries) (transcripts others : List PlainTranscript)
       (clock clock_then another another_then : C) (texts texts_then files files_then : T) (shelves shelves_then racks racks_then : List K)
@@ -137,19 +137,20 @@ module _ (one_text : OneText) (one_list : OneList) (one_transcript : PartsMakeOn
       journal other transcripts others over.1.1.0 again.1.1.0 over.0 again.0 over.1.1.1.0 again.1.1.1.0 (over.1.0, over.1.1.1.1) (again.1.0, again.1.1.1.1)
 
   -- a run for which no word names a device is one over the bundle's own
-  own_run : (place : Option (List ℕ)) (components relay named : Bool) (library : Option (List ℕ)) (bundle : PlainBundle) (journal : Entries) (transcripts : List PlainTranscript) (clock clock_then : C) (files files_then : T) (shelves shelves_then : List K)
-      → place ≡ None → named ≡ false → library ≡ None → NamedRun ticks clock_faults text_told text_faults told faults place components relay named library bundle journal transcripts clock clock_then files files_then shelves shelves_then
+  own_run : (in_turns : Bool) (place : Option (List ℕ)) (components relay named : Bool) (library : Option (List ℕ)) (bundle : PlainBundle) (journal : Entries) (transcripts : List PlainTranscript) (clock clock_then : C) (files files_then : T) (shelves shelves_then : List K)
+      → in_turns ≡ true → place ≡ None → named ≡ false → library ≡ None → NamedRun in_turns ticks clock_faults text_told text_faults told faults place components relay named library bundle journal transcripts clock clock_then files files_then shelves shelves_then
       → OwnRun components relay bundle journal transcripts clock clock_then files files_then shelves shelves_then
-  own_run place components relay named library bundle journal transcripts clock clock_then files files_then shelves shelves_then no_text no_clock no_library over =
-      subst (λ (l : Option (List ℕ)). NamedRun ticks clock_faults text_told text_faults told faults None components relay false l bundle journal transcripts clock clock_then files files_then shelves shelves_then) no_library
-      (subst₂ (λ (p : Option (List ℕ)) (n : Bool). NamedRun ticks clock_faults text_told text_faults told faults p components relay n library bundle journal transcripts clock clock_then files files_then shelves shelves_then) no_text no_clock over)
+  own_run in_turns place components relay named library bundle journal transcripts clock clock_then files files_then shelves shelves_then replayed no_text no_clock no_library over =
+      subst (λ (l : Option (List ℕ)). NamedRun true ticks clock_faults text_told text_faults told faults None components relay false l bundle journal transcripts clock clock_then files files_then shelves shelves_then) no_library
+      (subst₂ (λ (p : Option (List ℕ)) (n : Bool). NamedRun true ticks clock_faults text_told text_faults told faults p components relay n library bundle journal transcripts clock clock_then files files_then shelves shelves_then) no_text no_clock
+      (subst (λ (b : Bool). NamedRun b ticks clock_faults text_told text_faults told faults place components relay named library bundle journal transcripts clock clock_then files files_then shelves shelves_then) replayed over))
 
   -- so the bytes read have one output, whatever was asked for but a device
   pub own_outputs_one : ((bytes : List ℕ) (bundle other : PlainBundle) → BundleText bytes bundle → BundleText bytes other → bundle ≡ other) → OwnOutputsAreOne ticks clock_faults text_told text_faults told faults
   own_outputs_one one_bundle asked wanted clock clock_then another another_then texts texts_then files files_then shelves shelves_then racks racks_then bytes text other none also same_files same_relay output again =
       let same : output.bundle ≡ again.bundle = one_bundle bytes output.bundle again.bundle output.read again.read in
-      let over = own_run asked.text asked.components asked.relay asked.clock asked.library output.bundle output.journal output.transcripts clock clock_then texts texts_then shelves shelves_then none.text none.clock none.library output.run in
-      let ran = own_run wanted.text wanted.components wanted.relay wanted.clock wanted.library again.bundle again.journal again.transcripts another another_then files files_then racks racks_then also.text also.clock also.library again.run in
+      let over = own_run asked.replay asked.text asked.components asked.relay asked.clock asked.library output.bundle output.journal output.transcripts clock clock_then texts texts_then shelves shelves_then none.replay none.text none.clock none.library output.run in
+      let ran = own_run wanted.replay wanted.text wanted.components wanted.relay wanted.clock wanted.library again.bundle again.journal again.transcripts another another_then files files_then racks racks_then also.replay also.text also.clock also.library again.run in
       let likewise = subst (λ (b : PlainBundle). OwnRun asked.components asked.relay b again.journal again.transcripts another another_then files files_then racks racks_then) (sym same)
       (subst₂ (λ (c r : Bool). OwnRun c r again.bundle again.journal again.transcripts another another_then files files_then racks racks_then) (sym same_files) (sym same_relay) ran) in
       let one = one_own asked.components asked.relay output.bundle output.read.rules output.journal again.journal output.transcripts again.transcripts clock clock_then another another_then texts texts_then files files_then

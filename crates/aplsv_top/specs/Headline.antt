@@ -23,6 +23,7 @@ use Rattle.aux_components.specs.Protocol as component_state
 use Rattle.aux_components.specs.Protocol.{FileState}
 use Rattle.aux_relay.specs.Queues.{Queues, Relays}
 use Rattle.aplsv_replay.specs.Replayed.{IsDeviceRun, IsRunInTurns}
+use Rattle.aplsv_serve.specs.Runs.{IsSomeRun}
 use Rattle.aplsv_words.specs.Meaning.{Asked}
 
 -- the text store of a run: the bundle's files, before the first call, none of which is to fail
@@ -122,35 +123,43 @@ abbrev pub OverShelves : {K : Type 0} → (K → Option (Told (ℕ × List ℕ))
 OverShelves {K} told faults (Some place) bundle shelves shelves_then Holds = (placed : List K) × AreToldTheirPlace told faults place (length bundle.users) shelves placed × Holds K told faults placed shelves_then
 OverShelves told faults None bundle shelves shelves_then Holds = (kept : List (Keeper (ℕ × List ℕ))) × Holds (Keeper (ℕ × List ℕ)) (λ k. Some k.told) (λ k. k.faults) (shelves_of bundle) kept
 
--- it is a run of this bundle, in turns, over what answers behind 10 and 20 and the shelves that are named: this is its journal, and these are its transcripts
-abbrev pub ShelvedRun : {X Y K : Type 0} → (X → ℕ → X → Type 0) → (X → ℕ → PlainArray → PlainArray → X → Type 0) → (Y → ℕ → Y → Type 0) → (Y → ℕ → PlainArray → PlainArray → Y → Type 0) → (K → Option (Told (ℕ × List ℕ))) → (K → ℕ)
+-- a run of this bundle by one of the drivers: this is its journal, and these are its transcripts. It is in turns, so that its journal is that of the bundle's replay, or it is on threads, whoever had his turn when
+abbrev pub RunBy : {X Y K : Type 0} → Bool → (X → ℕ → X → Type 0) → (X → ℕ → PlainArray → PlainArray → X → Type 0) → (Y → ℕ → Y → Type 0) → (Y → ℕ → PlainArray → PlainArray → Y → Type 0) → (K → Option (Told (ℕ × List ℕ))) → (K → ℕ)
+    → PlainBundle → Entries → List PlainTranscript → X → X → Y → Y → List K → List K → Type 0
+RunBy true forgets_ten replies_ten forgets_twenty replies_twenty told faults bundle journal transcripts ten ten_then twenty twenty_then shelves shelves_then =
+    IsRunInTurns forgets_ten replies_ten forgets_twenty replies_twenty told faults bundle journal transcripts ten ten_then twenty twenty_then shelves shelves_then
+RunBy false forgets_ten replies_ten forgets_twenty replies_twenty told faults bundle journal transcripts ten ten_then twenty twenty_then shelves shelves_then =
+    IsSomeRun forgets_ten replies_ten forgets_twenty replies_twenty told faults bundle journal transcripts ten ten_then twenty twenty_then shelves shelves_then
+
+-- over what answers behind 10 and 20, and the shelves that are named
+abbrev pub ShelvedRun : {X Y K : Type 0} → Bool → (X → ℕ → X → Type 0) → (X → ℕ → PlainArray → PlainArray → X → Type 0) → (Y → ℕ → Y → Type 0) → (Y → ℕ → PlainArray → PlainArray → Y → Type 0) → (K → Option (Told (ℕ × List ℕ))) → (K → ℕ)
     → Option (List ℕ) → PlainBundle → Entries → List PlainTranscript → X → X → Y → Y → List K → List K → Type 0
-ShelvedRun forgets_ten replies_ten forgets_twenty replies_twenty told faults library bundle journal transcripts ten ten_then twenty twenty_then shelves shelves_then =
+ShelvedRun in_turns forgets_ten replies_ten forgets_twenty replies_twenty told faults library bundle journal transcripts ten ten_then twenty twenty_then shelves shelves_then =
     OverShelves told faults library bundle shelves shelves_then (λ K told faults shelves shelves_then.
-    IsRunInTurns forgets_ten replies_ten forgets_twenty replies_twenty told faults bundle journal transcripts ten ten_then twenty twenty_then shelves shelves_then)
+    RunBy in_turns forgets_ten replies_ten forgets_twenty replies_twenty told faults bundle journal transcripts ten ten_then twenty twenty_then shelves shelves_then)
 
 -- over what answers behind 20, and what is named for 10 and for shelves
-abbrev pub TwentyRun : {C Y K : Type 0} → (C → Option Ticks) → (C → ℕ) → (Y → ℕ → Y → Type 0) → (Y → ℕ → PlainArray → PlainArray → Y → Type 0) → (K → Option (Told (ℕ × List ℕ))) → (K → ℕ)
+abbrev pub TwentyRun : {C Y K : Type 0} → Bool → (C → Option Ticks) → (C → ℕ) → (Y → ℕ → Y → Type 0) → (Y → ℕ → PlainArray → PlainArray → Y → Type 0) → (K → Option (Told (ℕ × List ℕ))) → (K → ℕ)
     → Bool → Bool → Option (List ℕ) → PlainBundle → Entries → List PlainTranscript → C → C → Y → Y → List K → List K → Type 0
-TwentyRun ticks clock_faults forgets_twenty replies_twenty told faults relay named library bundle journal transcripts clock clock_then twenty twenty_then shelves shelves_then =
+TwentyRun in_turns ticks clock_faults forgets_twenty replies_twenty told faults relay named library bundle journal transcripts clock clock_then twenty twenty_then shelves shelves_then =
     BehindTen ticks clock_faults relay named bundle clock clock_then (λ X forgets_ten replies_ten ten ten_then.
-    ShelvedRun forgets_ten replies_ten forgets_twenty replies_twenty told faults library bundle journal transcripts ten ten_then twenty twenty_then shelves shelves_then)
+    ShelvedRun in_turns forgets_ten replies_ten forgets_twenty replies_twenty told faults library bundle journal transcripts ten ten_then twenty twenty_then shelves shelves_then)
 
 -- over all that is named
-abbrev pub NamedRun : {C T K : Type 0} → (C → Option Ticks) → (C → ℕ) → (T → Option (Told (List ℕ))) → (T → ℕ) → (K → Option (Told (ℕ × List ℕ))) → (K → ℕ)
+abbrev pub NamedRun : {C T K : Type 0} → Bool → (C → Option Ticks) → (C → ℕ) → (T → Option (Told (List ℕ))) → (T → ℕ) → (K → Option (Told (ℕ × List ℕ))) → (K → ℕ)
     → Option (List ℕ) → Bool → Bool → Bool → Option (List ℕ) → PlainBundle → Entries → List PlainTranscript → C → C → T → T → List K → List K → Type 0
-NamedRun ticks clock_faults text_told text_faults told faults place components relay named library bundle journal transcripts clock clock_then files files_then shelves shelves_then =
+NamedRun in_turns ticks clock_faults text_told text_faults told faults place components relay named library bundle journal transcripts clock clock_then files files_then shelves shelves_then =
     BehindTwenty text_told text_faults place components bundle files files_then (λ Y forgets_twenty replies_twenty twenty twenty_then.
-    TwentyRun ticks clock_faults forgets_twenty replies_twenty told faults relay named library bundle journal transcripts clock clock_then twenty twenty_then shelves shelves_then)
+    TwentyRun in_turns ticks clock_faults forgets_twenty replies_twenty told faults relay named library bundle journal transcripts clock clock_then twenty twenty_then shelves shelves_then)
 
--- the bytes are the text of a bundle, and the text is the output of a run of it over what is asked for
+-- the bytes are the text of a bundle, and the text is the output of a run of it over what is asked for: in turns, where a replay is asked for, and else on threads
 pub record IsOutputAs {C T K : Type 0} (ticks : C → Option Ticks) (clock_faults : C → ℕ) (text_told : T → Option (Told (List ℕ))) (text_faults : T → ℕ) (told : K → Option (Told (ℕ × List ℕ))) (faults : K → ℕ)
     (asked : Asked) (clock clock_then : C) (files files_then : T) (shelves shelves_then : List K) (bytes text : List ℕ) : Type 0 where
   pub bundle : PlainBundle
   pub read : BundleText bytes bundle
   pub transcripts : List PlainTranscript
   pub journal : Entries
-  pub run : NamedRun ticks clock_faults text_told text_faults told faults asked.text asked.components asked.relay asked.clock asked.library bundle journal transcripts clock clock_then files files_then shelves shelves_then
+  pub run : NamedRun asked.replay ticks clock_faults text_told text_faults told faults asked.text asked.components asked.relay asked.clock asked.library bundle journal transcripts clock clock_then files files_then shelves shelves_then
   pub output : text ≡ output_text transcripts (reverse journal)
   pub printable : ArePrintable transcripts (reverse journal)
 

@@ -1,5 +1,5 @@
 -- What holds of outputs.
-use Rattle.std.specs.Prelude.{◌≡◌, ◌≢◌, ℕ, false, List, [], ◌∷◌, Option, Some, None, IsSome, IsSomeAnd, map}
+use Rattle.std.specs.Prelude.{◌≡◌, ◌≢◌, ℕ, true, false, List, [], ◌∷◌, Option, Some, None, IsSome, IsSomeAnd, map}
 use Rattle.std.specs.declared.cmp.Ordering.{Ordering}
 use Rattle.apl_arrays.specs.Array.{PlainArray}
 use Rattle.apl_arrays.specs.Name.{name_order}
@@ -52,8 +52,9 @@ module _ {K : Type 0} (told : K → Option (Told (ℕ × List ℕ))) (faults : K
   AllTellThroughout dealings (user ∷ users) (shelf ∷ shelves) (shelf_then ∷ shelves_then) served =
       TellsThroughout user.number shelf (dealings user.number) shelf_then served.0 × AllTellThroughout dealings users shelves shelves_then served.1
 
--- no word names a device
-pub record NamesNoDevice (asked : Asked) : Type 0 where
+-- a replay is asked for, and no word names a device
+pub record ReplaysItsOwn (asked : Asked) : Type 0 where
+  pub replay : asked.replay ≡ true
   pub text : asked.text ≡ None
   pub clock : asked.clock ≡ false
   pub library : asked.library ≡ None
@@ -88,10 +89,10 @@ module _ {C T K : Type 0} (ticks : C → Option Ticks) (clock_faults : C → ℕ
       → LeavesNoneUntold bundle again.journal again.transcripts another another_then files files_then racks racks_then again.run
       → ticks clock ≡ ticks another → text_told texts ≡ text_told files → map told shelves ≡ map told racks → text ≡ other
 
-  -- where no word names a device, the output is one function of the bytes read, and of whether component files and a relay are asked for
+  -- where a replay is asked for and no word names a device, the output is one function of the bytes read, and of whether component files and a relay are asked for
   abbrev pub OwnOutputsAreOne : Type 0
   OwnOutputsAreOne =
       (asked wanted : Asked) (clock clock_then another another_then : C) (texts texts_then files files_then : T) (shelves shelves_then racks racks_then : List K) (bytes text other : List ℕ)
-      → NamesNoDevice asked → NamesNoDevice wanted → asked.components ≡ wanted.components → asked.relay ≡ wanted.relay
+      → ReplaysItsOwn asked → ReplaysItsOwn wanted → asked.components ≡ wanted.components → asked.relay ≡ wanted.relay
       → IsOutputAs ticks clock_faults text_told text_faults told faults asked clock clock_then texts texts_then shelves shelves_then bytes text
       → IsOutputAs ticks clock_faults text_told text_faults told faults wanted another another_then files files_then racks racks_then bytes other → text ≡ other

@@ -5,6 +5,7 @@ ghost use Rattle.aux_choice.specs.OneOf.{is_first};
 ghost use Rattle.aplsv_words.specs.Meaning.{asked_by};
 ghost use Rattle.aplsv_top.specs.Headline.{ShelvedRun, TwentyRun, clock_of};
 
+use crate::driver::Driver;
 use crate::memory::memory_clock;
 use crate::over_shelves::over_both;
 use crate::run::Ran;
@@ -28,8 +29,14 @@ type Ten<C> = OneOf<ClockAux<C>, OwnTen>;
 
 /// Runs a bundle over what answers behind 20, which comes back in the place of a text store, and the relay or the clock and the
 /// shelves that the words ask for. It takes memory for the run.
-pub(crate) fn over_twenty<Y: Replier, C: Clock, K: Shelf>(
+pub(crate) fn over_twenty<
+    D: Driver,
+    Y: Replier + Send + Drop,
+    C: Clock + Send + Drop,
+    K: Shelf + Send + Drop,
+>(
     alloc: Global,
+    driver: &D,
     words: &Words,
     bundle: Bundle,
     twenty: Y,
@@ -37,7 +44,7 @@ pub(crate) fn over_twenty<Y: Replier, C: Clock, K: Shelf>(
     shelves: Vec<K>,
 ) -> Ran<Y, C, K>
     requires shelves { vec_len shelves ≡ most_users }
-    ensures run { IfWhole result.ended (λ transcripts journal. TwentyRun C.told C.faults Y.forgets Y.replies K.told K.faults (asked_by words.now).relay (asked_by words.now).clock (asked_by words.now).library
+    ensures run { IfWhole result.ended (λ transcripts journal. TwentyRun D.in_turns C.told C.faults Y.forgets Y.replies K.told K.faults (asked_by words.now).relay (asked_by words.now).clock (asked_by words.now).library
         bundle journal transcripts clock result.clock twenty result.text
         shelves.items result.shelves.items) }
     ensures clock { (asked_by words.now).clock ≡ false → result.clock ≡ clock }
@@ -45,17 +52,18 @@ pub(crate) fn over_twenty<Y: Replier, C: Clock, K: Shelf>(
     ensures library { (asked_by words.now).library ≡ None → result.shelves ≡ shelves }
 {
     if words.relay {
-        over_relay(alloc, words, bundle, twenty, clock, shelves)
+        over_relay(alloc, driver, words, bundle, twenty, clock, shelves)
     } else if words.clock {
-        over_clock(alloc, words, bundle, twenty, clock, shelves)
+        over_clock(alloc, driver, words, bundle, twenty, clock, shelves)
     } else {
-        over_readings(alloc, words, bundle, twenty, clock, shelves)
+        over_readings(alloc, driver, words, bundle, twenty, clock, shelves)
     }
 }
 
 // Runs it over a relay that holds nothing yet, and no clock.
-fn over_relay<Y: Replier, C: Clock, K: Shelf>(
+fn over_relay<D: Driver, Y: Replier + Send + Drop, C: Clock + Send + Drop, K: Shelf + Send + Drop>(
     alloc: Global,
+    driver: &D,
     words: &Words,
     bundle: Bundle,
     twenty: Y,
@@ -63,7 +71,7 @@ fn over_relay<Y: Replier, C: Clock, K: Shelf>(
     shelves: Vec<K>,
 ) -> Ran<Y, C, K>
     requires shelves { vec_len shelves ≡ most_users }
-    ensures run { IfWhole result.ended (λ transcripts journal. TwentyRun C.told C.faults Y.forgets Y.replies K.told K.faults true (asked_by words.now).clock (asked_by words.now).library
+    ensures run { IfWhole result.ended (λ transcripts journal. TwentyRun D.in_turns C.told C.faults Y.forgets Y.replies K.told K.faults true (asked_by words.now).clock (asked_by words.now).library
         bundle journal transcripts clock result.clock twenty result.text
         shelves.items result.shelves.items) }
     ensures clock { result.clock ≡ clock }
@@ -76,7 +84,7 @@ fn over_relay<Y: Replier, C: Clock, K: Shelf>(
         ten: _relay,
         twenty,
         shelves,
-    } = over_ten::<Brand, C, Y, K>(alloc, words, bundle, ten, twenty, shelves);
+    } = over_ten::<D, Brand, C, Y, K>(alloc, driver, words, bundle, ten, twenty, shelves);
     Ran {
         ended,
         text: twenty,
@@ -86,8 +94,9 @@ fn over_relay<Y: Replier, C: Clock, K: Shelf>(
 }
 
 // Runs it over the clock that was handed in.
-fn over_clock<Y: Replier, C: Clock, K: Shelf>(
+fn over_clock<D: Driver, Y: Replier + Send + Drop, C: Clock + Send + Drop, K: Shelf + Send + Drop>(
     alloc: Global,
+    driver: &D,
     words: &Words,
     bundle: Bundle,
     twenty: Y,
@@ -95,7 +104,7 @@ fn over_clock<Y: Replier, C: Clock, K: Shelf>(
     shelves: Vec<K>,
 ) -> Ran<Y, C, K>
     requires shelves { vec_len shelves ≡ most_users }
-    ensures run { IfWhole result.ended (λ transcripts journal. TwentyRun C.told C.faults Y.forgets Y.replies K.told K.faults false true (asked_by words.now).library
+    ensures run { IfWhole result.ended (λ transcripts journal. TwentyRun D.in_turns C.told C.faults Y.forgets Y.replies K.told K.faults false true (asked_by words.now).library
         bundle journal transcripts clock result.clock twenty result.text
         shelves.items result.shelves.items) }
     ensures library { (asked_by words.now).library ≡ None → result.shelves ≡ shelves }
@@ -106,7 +115,7 @@ fn over_clock<Y: Replier, C: Clock, K: Shelf>(
         ten,
         twenty,
         shelves,
-    } = over_ten::<Brand, C, Y, K>(alloc, words, bundle, ten, twenty, shelves);
+    } = over_ten::<D, Brand, C, Y, K>(alloc, driver, words, bundle, ten, twenty, shelves);
     match ten {
         OneOf::First(handed) => Ran {
             ended,
@@ -119,8 +128,14 @@ fn over_clock<Y: Replier, C: Clock, K: Shelf>(
 }
 
 // Runs it over its own readings; the clock that was handed in is left.
-fn over_readings<Y: Replier, C: Clock, K: Shelf>(
+fn over_readings<
+    D: Driver,
+    Y: Replier + Send + Drop,
+    C: Clock + Send + Drop,
+    K: Shelf + Send + Drop,
+>(
     alloc: Global,
+    driver: &D,
     words: &Words,
     bundle: Bundle,
     twenty: Y,
@@ -128,14 +143,16 @@ fn over_readings<Y: Replier, C: Clock, K: Shelf>(
     shelves: Vec<K>,
 ) -> Ran<Y, C, K>
     requires shelves { vec_len shelves ≡ most_users }
-    ensures run { IfWhole result.ended (λ transcripts journal. TwentyRun C.told C.faults Y.forgets Y.replies K.told K.faults false false (asked_by words.now).library
+    ensures run { IfWhole result.ended (λ transcripts journal. TwentyRun D.in_turns C.told C.faults Y.forgets Y.replies K.told K.faults false false (asked_by words.now).library
         bundle journal transcripts clock result.clock twenty result.text
         shelves.items result.shelves.items) }
     ensures clock { result.clock ≡ clock }
     ensures library { (asked_by words.now).library ≡ None → result.shelves ≡ shelves }
 {
     match memory_clock(alloc, &bundle) {
-        Ok(readings) => over_own_clock(alloc, words, bundle, readings, twenty, clock, shelves),
+        Ok(readings) => over_own_clock(
+            alloc, driver, words, bundle, readings, twenty, clock, shelves,
+        ),
         Err(WantOfMemory) => Ran {
             ended: Ended::WantOfMemory,
             text: twenty,
@@ -146,8 +163,14 @@ fn over_readings<Y: Replier, C: Clock, K: Shelf>(
 }
 
 // Runs it over these readings, which are its own.
-fn over_own_clock<Y: Replier, C: Clock, K: Shelf>(
+fn over_own_clock<
+    D: Driver,
+    Y: Replier + Send + Drop,
+    C: Clock + Send + Drop,
+    K: Shelf + Send + Drop,
+>(
     alloc: Global,
+    driver: &D,
     words: &Words,
     bundle: Bundle,
     readings: MemoryClock,
@@ -157,7 +180,7 @@ fn over_own_clock<Y: Replier, C: Clock, K: Shelf>(
 ) -> Ran<Y, C, K>
     requires shelves { vec_len shelves ≡ most_users }
     requires own { readings ≡ clock_of bundle }
-    ensures run { IfWhole result.ended (λ transcripts journal. TwentyRun C.told C.faults Y.forgets Y.replies K.told K.faults false false (asked_by words.now).library
+    ensures run { IfWhole result.ended (λ transcripts journal. TwentyRun D.in_turns C.told C.faults Y.forgets Y.replies K.told K.faults false false (asked_by words.now).library
         bundle journal transcripts clock result.clock twenty result.text
         shelves.items result.shelves.items) }
     ensures clock { result.clock ≡ clock }
@@ -170,7 +193,7 @@ fn over_own_clock<Y: Replier, C: Clock, K: Shelf>(
         ten: _readings,
         twenty,
         shelves,
-    } = over_ten::<Brand, C, Y, K>(alloc, words, bundle, ten, twenty, shelves);
+    } = over_ten::<D, Brand, C, Y, K>(alloc, driver, words, bundle, ten, twenty, shelves);
     Ran {
         ended,
         text: twenty,
@@ -180,8 +203,15 @@ fn over_own_clock<Y: Replier, C: Clock, K: Shelf>(
 }
 
 // Runs it over this, which is the one that a choice says, and stays that one where memory runs out too.
-fn over_ten<P: Choice, C: Clock, Y: Replier, K: Shelf>(
+fn over_ten<
+    D: Driver,
+    P: Choice + Send,
+    C: Clock + Send + Drop,
+    Y: Replier + Send + Drop,
+    K: Shelf + Send + Drop,
+>(
     alloc: Global,
+    driver: &D,
     words: &Words,
     bundle: Bundle,
     ten: Ten<C>,
@@ -190,7 +220,7 @@ fn over_ten<P: Choice, C: Clock, Y: Replier, K: Shelf>(
 ) -> RunOf<Ten<C>, Y, K>
     requires chosen { is_first ten ≡ P.is_first }
     requires shelves { vec_len shelves ≡ most_users }
-    ensures run { IfWhole result.ended (λ transcripts journal. ShelvedRun ⟦<Ten<C> as Replier>⟧.forgets ⟦<Ten<C> as Replier>⟧.replies Y.forgets Y.replies K.told K.faults (asked_by words.now).library
+    ensures run { IfWhole result.ended (λ transcripts journal. ShelvedRun D.in_turns ⟦<Ten<C> as Replier>⟧.forgets ⟦<Ten<C> as Replier>⟧.replies Y.forgets Y.replies K.told K.faults (asked_by words.now).library
         bundle journal transcripts ten result.ten twenty result.twenty
         shelves.items result.shelves.items) }
     ensures stays { is_first result.ten ≡ is_first ten }
@@ -202,7 +232,7 @@ fn over_ten<P: Choice, C: Clock, Y: Replier, K: Shelf>(
         ten,
         twenty,
         shelves,
-    } = over_both(alloc, words, bundle, chosen, twenty, shelves);
+    } = over_both(alloc, driver, words, bundle, chosen, twenty, shelves);
     RunOf {
         ended,
         ten: ten.into_one(),

@@ -7,6 +7,7 @@ ghost use Rattle.aplsv_top.specs.StoredFiles.{files_in, store_of};
 ghost use Rattle.aplsv_top.specs.Headline.{NamedRun, OverFiles, TwentyRun, text_store_of};
 
 use crate::behind_ten::over_twenty;
+use crate::driver::Driver;
 use crate::memory::memory_text;
 use crate::run::Ran;
 use apl_arrays::WantOfMemory;
@@ -29,8 +30,14 @@ type Twenty<T> = OneOf<Files<T>, Files<MemoryText>>;
 
 /// Runs a bundle over the files in a text store that was handed in, as component files where the words ask for them and else as
 /// files of lines, and over all else that they ask for. It takes memory for the run.
-pub(crate) fn over_text<T: TextStore, C: Clock, K: Shelf>(
+pub(crate) fn over_text<
+    D: Driver,
+    T: TextStore + Send + Drop,
+    C: Clock + Send + Drop,
+    K: Shelf + Send + Drop,
+>(
     alloc: Global,
+    driver: &D,
     words: &Words,
     bundle: Bundle,
     text: T,
@@ -39,7 +46,7 @@ pub(crate) fn over_text<T: TextStore, C: Clock, K: Shelf>(
 ) -> Ran<T, C, K>
     requires shelves { vec_len shelves ≡ most_users }
     ensures run { IfWhole result.ended (λ transcripts journal. OverFiles T.told T.faults (asked_by words.now).components text result.text (λ Y forgets_twenty replies_twenty twenty twenty_then.
-        TwentyRun C.told C.faults forgets_twenty replies_twenty K.told K.faults (asked_by words.now).relay (asked_by words.now).clock (asked_by words.now).library
+        TwentyRun D.in_turns C.told C.faults forgets_twenty replies_twenty K.told K.faults (asked_by words.now).relay (asked_by words.now).clock (asked_by words.now).library
         bundle journal transcripts clock result.clock twenty twenty_then shelves.items result.shelves.items)) }
     ensures clock { (asked_by words.now).clock ≡ false → result.clock ≡ clock }
     ensures relayed { (asked_by words.now).relay ≡ true → result.clock ≡ clock }
@@ -52,7 +59,7 @@ pub(crate) fn over_text<T: TextStore, C: Clock, K: Shelf>(
         text: twenty,
         clock,
         shelves,
-    } = over_files::<Brand, T, C, K>(alloc, words, bundle, twenty, clock, shelves);
+    } = over_files::<D, Brand, T, C, K>(alloc, driver, words, bundle, twenty, clock, shelves);
     match twenty {
         OneOf::First(files) => Ran {
             ended,
@@ -66,8 +73,14 @@ pub(crate) fn over_text<T: TextStore, C: Clock, K: Shelf>(
 
 /// Runs a bundle over its own files, and over all else that the words ask for; the text store that was handed in is left. It
 /// takes memory for the files and the run.
-pub(crate) fn over_bundle_text<T: TextStore, C: Clock, K: Shelf>(
+pub(crate) fn over_bundle_text<
+    D: Driver,
+    T: TextStore + Send + Drop,
+    C: Clock + Send + Drop,
+    K: Shelf + Send + Drop,
+>(
     alloc: Global,
+    driver: &D,
     words: &Words,
     bundle: Bundle,
     text: T,
@@ -75,7 +88,7 @@ pub(crate) fn over_bundle_text<T: TextStore, C: Clock, K: Shelf>(
     shelves: Vec<K>,
 ) -> Ran<T, C, K>
     requires shelves { vec_len shelves ≡ most_users }
-    ensures run { IfWhole result.ended (λ transcripts journal. NamedRun C.told C.faults T.told T.faults K.told K.faults None (asked_by words.now).components (asked_by words.now).relay (asked_by words.now).clock (asked_by words.now).library
+    ensures run { IfWhole result.ended (λ transcripts journal. NamedRun D.in_turns C.told C.faults T.told T.faults K.told K.faults None (asked_by words.now).components (asked_by words.now).relay (asked_by words.now).clock (asked_by words.now).library
         bundle journal transcripts clock result.clock text result.text
         shelves.items result.shelves.items) }
     ensures text { result.text ≡ text }
@@ -84,7 +97,7 @@ pub(crate) fn over_bundle_text<T: TextStore, C: Clock, K: Shelf>(
     ensures library { (asked_by words.now).library ≡ None → result.shelves ≡ shelves }
 {
     match memory_text(alloc, &bundle) {
-        Ok(store) => over_own_text(alloc, words, bundle, store, text, clock, shelves),
+        Ok(store) => over_own_text(alloc, driver, words, bundle, store, text, clock, shelves),
         Err(WantOfMemory) => Ran {
             ended: Ended::WantOfMemory,
             text,
@@ -95,8 +108,14 @@ pub(crate) fn over_bundle_text<T: TextStore, C: Clock, K: Shelf>(
 }
 
 // Runs it over these, which are its own.
-fn over_own_text<T: TextStore, C: Clock, K: Shelf>(
+fn over_own_text<
+    D: Driver,
+    T: TextStore + Send + Drop,
+    C: Clock + Send + Drop,
+    K: Shelf + Send + Drop,
+>(
     alloc: Global,
+    driver: &D,
     words: &Words,
     bundle: Bundle,
     store: MemoryText,
@@ -106,7 +125,7 @@ fn over_own_text<T: TextStore, C: Clock, K: Shelf>(
 ) -> Ran<T, C, K>
     requires shelves { vec_len shelves ≡ most_users }
     requires own { store ≡ text_store_of bundle }
-    ensures run { IfWhole result.ended (λ transcripts journal. NamedRun C.told C.faults T.told T.faults K.told K.faults None (asked_by words.now).components (asked_by words.now).relay (asked_by words.now).clock (asked_by words.now).library
+    ensures run { IfWhole result.ended (λ transcripts journal. NamedRun D.in_turns C.told C.faults T.told T.faults K.told K.faults None (asked_by words.now).components (asked_by words.now).relay (asked_by words.now).clock (asked_by words.now).library
         bundle journal transcripts clock result.clock text result.text
         shelves.items result.shelves.items) }
     ensures text { result.text ≡ text }
@@ -121,7 +140,7 @@ fn over_own_text<T: TextStore, C: Clock, K: Shelf>(
         text: _files,
         clock,
         shelves,
-    } = over_files::<Brand, T, C, K>(alloc, words, bundle, twenty, clock, shelves);
+    } = over_files::<D, Brand, T, C, K>(alloc, driver, words, bundle, twenty, clock, shelves);
     Ran {
         ended,
         text,
@@ -131,8 +150,15 @@ fn over_own_text<T: TextStore, C: Clock, K: Shelf>(
 }
 
 // Runs it over these, which are those that a choice says, and stay those where memory runs out too.
-fn over_files<P: Choice, T: TextStore, C: Clock, K: Shelf>(
+fn over_files<
+    D: Driver,
+    P: Choice + Send,
+    T: TextStore + Send + Drop,
+    C: Clock + Send + Drop,
+    K: Shelf + Send + Drop,
+>(
     alloc: Global,
+    driver: &D,
     words: &Words,
     bundle: Bundle,
     files: Twenty<T>,
@@ -141,7 +167,7 @@ fn over_files<P: Choice, T: TextStore, C: Clock, K: Shelf>(
 ) -> Ran<Twenty<T>, C, K>
     requires chosen { is_first files ≡ P.is_first }
     requires shelves { vec_len shelves ≡ most_users }
-    ensures run { IfWhole result.ended (λ transcripts journal. TwentyRun C.told C.faults ⟦<Twenty<T> as Replier>⟧.forgets ⟦<Twenty<T> as Replier>⟧.replies K.told K.faults (asked_by words.now).relay (asked_by words.now).clock (asked_by words.now).library
+    ensures run { IfWhole result.ended (λ transcripts journal. TwentyRun D.in_turns C.told C.faults ⟦<Twenty<T> as Replier>⟧.forgets ⟦<Twenty<T> as Replier>⟧.replies K.told K.faults (asked_by words.now).relay (asked_by words.now).clock (asked_by words.now).library
         bundle journal transcripts clock result.clock files result.text shelves.items result.shelves.items) }
     ensures stays { is_first result.text ≡ is_first files }
     ensures clock { (asked_by words.now).clock ≡ false → result.clock ≡ clock }
@@ -154,7 +180,7 @@ fn over_files<P: Choice, T: TextStore, C: Clock, K: Shelf>(
         text: files,
         clock,
         shelves,
-    } = over_twenty(alloc, words, bundle, chosen, clock, shelves);
+    } = over_twenty(alloc, driver, words, bundle, chosen, clock, shelves);
     Ran {
         ended,
         text: files.into_one(),

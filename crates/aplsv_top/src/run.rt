@@ -5,6 +5,7 @@ ghost use Rattle.aplsv_words.specs.Meaning.{asked_by};
 ghost use Rattle.aplsv_top.specs.Headline.{NamedRun};
 
 use crate::behind_twenty::{over_bundle_text, over_text};
+use crate::driver::Driver;
 use apl_arrays::WantOfMemory;
 use apl_io::{Clock, Shelf, TextStore};
 use apl_session::Ended;
@@ -25,8 +26,14 @@ pub(crate) struct Ran<T, C, K> {
 /// files, its readings, and an empty shelf for each user. Behind 20 stand component files in the text store, where words ask for
 /// them, and behind 10 a relay in the place of a clock. What no word names is not called, and no clock is where there is a relay.
 /// It takes memory for the run.
-pub(crate) fn run_as_asked<T: TextStore, C: Clock, K: Shelf>(
+pub(crate) fn run_as_asked<
+    D: Driver,
+    T: TextStore + Send + Drop,
+    C: Clock + Send + Drop,
+    K: Shelf + Send + Drop,
+>(
     alloc: Global,
+    driver: &D,
     words: &Words,
     bundle: Bundle,
     text: T,
@@ -34,7 +41,7 @@ pub(crate) fn run_as_asked<T: TextStore, C: Clock, K: Shelf>(
     shelves: Vec<K>,
 ) -> Ran<T, C, K>
     requires shelves { vec_len shelves ≡ most_users }
-    ensures run { IfWhole result.ended (λ transcripts journal. NamedRun C.told C.faults T.told T.faults K.told K.faults (asked_by words.now).text (asked_by words.now).components (asked_by words.now).relay (asked_by words.now).clock (asked_by words.now).library
+    ensures run { IfWhole result.ended (λ transcripts journal. NamedRun D.in_turns C.told C.faults T.told T.faults K.told K.faults (asked_by words.now).text (asked_by words.now).components (asked_by words.now).relay (asked_by words.now).clock (asked_by words.now).library
         bundle journal transcripts clock result.clock text result.text
         shelves.items result.shelves.items) }
     ensures text { (asked_by words.now).text ≡ None → result.text ≡ text }
@@ -43,14 +50,20 @@ pub(crate) fn run_as_asked<T: TextStore, C: Clock, K: Shelf>(
     ensures library { (asked_by words.now).library ≡ None → result.shelves ≡ shelves }
 {
     match words.text {
-        Some(place) => over_placed_text(alloc, place, words, bundle, text, clock, shelves),
-        None => over_bundle_text(alloc, words, bundle, text, clock, shelves),
+        Some(place) => over_placed_text(alloc, driver, place, words, bundle, text, clock, shelves),
+        None => over_bundle_text(alloc, driver, words, bundle, text, clock, shelves),
     }
 }
 
 // Runs it over the text store that was handed in, which is told its place.
-fn over_placed_text<T: TextStore, C: Clock, K: Shelf>(
+fn over_placed_text<
+    D: Driver,
+    T: TextStore + Send + Drop,
+    C: Clock + Send + Drop,
+    K: Shelf + Send + Drop,
+>(
     alloc: Global,
+    driver: &D,
     place: &str,
     words: &Words,
     bundle: Bundle,
@@ -59,7 +72,7 @@ fn over_placed_text<T: TextStore, C: Clock, K: Shelf>(
     shelves: Vec<K>,
 ) -> Ran<T, C, K>
     requires shelves { vec_len shelves ≡ most_users }
-    ensures run { IfWhole result.ended (λ transcripts journal. NamedRun C.told C.faults T.told T.faults K.told K.faults (Some place.now) (asked_by words.now).components (asked_by words.now).relay (asked_by words.now).clock (asked_by words.now).library
+    ensures run { IfWhole result.ended (λ transcripts journal. NamedRun D.in_turns C.told C.faults T.told T.faults K.told K.faults (Some place.now) (asked_by words.now).components (asked_by words.now).relay (asked_by words.now).clock (asked_by words.now).library
         bundle journal transcripts clock result.clock text result.text
         shelves.items result.shelves.items) }
     ensures clock { (asked_by words.now).clock ≡ false → result.clock ≡ clock }
@@ -68,7 +81,7 @@ fn over_placed_text<T: TextStore, C: Clock, K: Shelf>(
 {
     let mut text = text;
     match text.set_place(place) {
-        Ok(()) => over_text(alloc, words, bundle, text, clock, shelves),
+        Ok(()) => over_text(alloc, driver, words, bundle, text, clock, shelves),
         Err(WantOfMemory) => Ran {
             ended: Ended::WantOfMemory,
             text,

@@ -8,6 +8,7 @@ ghost use Rattle.aplsv_top.specs.Headline.{IsOutputAs};
 ghost use Rattle.aplsv_top.specs.Words.{AskReplay, IsConclusion};
 ghost use Rattle.aplsv_top.specs.declared.status.Status.TheVariants as status;
 
+use crate::driver::{Driver, InTurns};
 use crate::output::output_in;
 use crate::run::{Ran, run_as_asked};
 use crate::status::{Finish, Status};
@@ -30,7 +31,13 @@ const INPUT_LIMIT: usize = 4_194_304;
 /// `--replay`, are `Usage`. It returns for every source and sink. What no word names is not called, and comes back as it came; the store and
 /// the shelves of the bundle's users are told the place that a word names once a bundle was read, and the shelves behind
 /// these are left. Nothing is written unless a bundle was run, where memory runs out too.
-pub fn aplsv_replay_words<S: Source, W: Sink, T: TextStore, C: Clock, K: Shelf>(
+pub fn aplsv_replay_words<
+    S: Source,
+    W: Sink,
+    T: TextStore + Send + Drop,
+    C: Clock + Send + Drop,
+    K: Shelf + Send + Drop,
+>(
     alloc: Global,
     words: &[String],
     input: &mut S,
@@ -84,9 +91,14 @@ pub(crate) fn ended<T, C, K>(status: Status, text: T, clock: C, shelves: Vec<K>)
     }
 }
 
-/// What words that have a meaning come to, where they ask for a replay; else they are `Usage`. It takes memory for the bundle,
-/// the run and the output.
-pub(crate) fn as_asked<S: Source, W: Sink, T: TextStore, C: Clock, K: Shelf>(
+// What words that have a meaning come to, where they ask for a replay; else they are `Usage`.
+fn as_asked<
+    S: Source,
+    W: Sink,
+    T: TextStore + Send + Drop,
+    C: Clock + Send + Drop,
+    K: Shelf + Send + Drop,
+>(
     alloc: Global,
     words: &Words,
     input: &mut S,
@@ -111,14 +123,24 @@ pub(crate) fn as_asked<S: Source, W: Sink, T: TextStore, C: Clock, K: Shelf>(
         → (result.text ≡ text) × (result.clock ≡ clock) × (result.shelves ≡ shelves) }
 {
     if words.replay {
-        run(alloc, words, input, output, text, clock, shelves)
+        run(alloc, &InTurns, words, input, output, text, clock, shelves)
     } else {
         ended(Status::Usage, text, clock, shelves)
     }
 }
 
-fn run<S: Source, W: Sink, T: TextStore, C: Clock, K: Shelf>(
+/// What words come to that ask for a run by this driver of a bundle that is read. It takes memory for the bundle, the run and the
+/// output.
+pub(crate) fn run<
+    D: Driver,
+    S: Source,
+    W: Sink,
+    T: TextStore + Send + Drop,
+    C: Clock + Send + Drop,
+    K: Shelf + Send + Drop,
+>(
     alloc: Global,
+    driver: &D,
     words: &Words,
     input: &mut S,
     output: &mut W,
@@ -126,6 +148,7 @@ fn run<S: Source, W: Sink, T: TextStore, C: Clock, K: Shelf>(
     clock: C,
     shelves: Vec<K>,
 ) -> Finish<T, C, K>
+    requires driver { D.in_turns ≡ (asked_by words.now).replay }
     requires shelves { vec_len shelves ≡ most_users }
     ensures causes { HasCause (IsOutputAs C.told C.faults T.told T.faults K.told K.faults (asked_by words.now) clock result.clock text result.text shelves.items result.shelves.items) result.status
         (record { bytes = S.left input.old; faults = S.faults input.old }) (record { bytes = S.left input.new; faults = S.faults input.new })
@@ -140,7 +163,16 @@ fn run<S: Source, W: Sink, T: TextStore, C: Clock, K: Shelf>(
         → (result.text ≡ text) × (result.clock ≡ clock) × (result.shelves ≡ shelves) }
 {
     match read_all(alloc, input, INPUT_LIMIT) {
-        Ok(bytes) => answer(alloc, words, bytes.as_slice(), output, text, clock, shelves),
+        Ok(bytes) => answer(
+            alloc,
+            driver,
+            words,
+            bytes.as_slice(),
+            output,
+            text,
+            clock,
+            shelves,
+        ),
         Err(ReadRefused::ReadFault) => ended(Status::ReadFault, text, clock, shelves),
         Err(ReadRefused::TooLong) => ended(Status::TooLong, text, clock, shelves),
         Err(ReadRefused::WantOfMemory) => ended(Status::WantOfMemory, text, clock, shelves),
@@ -148,8 +180,15 @@ fn run<S: Source, W: Sink, T: TextStore, C: Clock, K: Shelf>(
 }
 
 // What becomes of bytes that were all read: they are the whole of a source that has no faults.
-fn answer<W: Sink, T: TextStore, C: Clock, K: Shelf>(
+fn answer<
+    D: Driver,
+    W: Sink,
+    T: TextStore + Send + Drop,
+    C: Clock + Send + Drop,
+    K: Shelf + Send + Drop,
+>(
     alloc: Global,
+    driver: &D,
     words: &Words,
     bytes: &[u8],
     output: &mut W,
@@ -158,6 +197,7 @@ fn answer<W: Sink, T: TextStore, C: Clock, K: Shelf>(
     shelves: Vec<K>,
 ) -> Finish<T, C, K>
     requires few { length bytes.now ≤ most_input_bytes }
+    requires driver { D.in_turns ≡ (asked_by words.now).replay }
     requires shelves { vec_len shelves ≡ most_users }
     ensures causes { HasCause (IsOutputAs C.told C.faults T.told T.faults K.told K.faults (asked_by words.now) clock result.clock text result.text shelves.items result.shelves.items) result.status
         (record { bytes = Some bytes.now; faults = 0 }) (record { bytes = Some []; faults = 0 })
@@ -185,7 +225,7 @@ fn answer<W: Sink, T: TextStore, C: Clock, K: Shelf>(
         text,
         clock,
         shelves,
-    } = run_as_asked(alloc, words, bundle, text, clock, shelves);
+    } = run_as_asked(alloc, driver, words, bundle, text, clock, shelves);
     let written = output_in(alloc, outcome);
     match written {
         Ok(written) => ended(write(&written, output), text, clock, shelves),

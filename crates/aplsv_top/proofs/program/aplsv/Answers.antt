@@ -1,4 +1,4 @@
-use Rattle.std.proofs.Common.{◌≡◌, ◌||◌, ◌∙◌, ℕ, Bool, true, false, Option, Some, None, ap, is_some, inl, map, refl, string_bytes, subst, sym, true≢false}
+use Rattle.std.proofs.Common.{◌≡◌, ◌∙◌, ℕ, Option, Some, None, ap, map, refl, string_bytes, subst, sym}
 use Rattle.aplsv_words.specs.Meaning.{Asked, asked_by}
 use Rattle.aplsv_words.specs.declared.words.WordsRefused.TheVariants as refused
 use Rattle.aplsv_top.specs.Causes.{HasCause}
@@ -6,22 +6,17 @@ use Rattle.aplsv_top.specs.Headline.{IsOutputAs}
 use Rattle.aplsv_top.specs.Loads.{HasLoadCause, IsLoadAs}
 use Rattle.aplsv_top.specs.Words.{IsConclusion}
 use Rattle.aplsv_top.proofs.Causes.{concluded}
-use Rattle.aplsv_top.proofs.LoadCauses.{load_concluded, load_counts}
-use Rattle.aplsv_top.proofs.one_thread.aplsv_on_one_thread.Goals as goal
-
-is_false : (b : Bool) → (b ≡ true → ⊥) → b ≡ false
-is_false true untrue = absurd (untrue refl)
-is_false false untrue = refl
+use Rattle.aplsv_top.proofs.LoadCauses.{load_concluded, load_counts, workers_count}
+use Rattle.aplsv_top.proofs.program.aplsv.Goals as goal
 
 usage_is_no_want : refused.Usage ≡ refused.WantOfMemory → ⊥
 usage_is_no_want e = cc
 
--- a run is asked for
-abbrev asks_run : Asked → Bool
-asks_run asked = asked.replay || is_some asked.load
-
 pub by_words-requires-clause-count : goal.by_words-requires-clause-count
 by_words-requires-clause-count g c = λ n is. load_counts (map string_bytes c.args.words.now) (asked_by c.in-Ok.asked) n c.in-Ok.ensures.means is
+
+pub by_words-requires-clause-workers : goal.by_words-requires-clause-workers
+by_words-requires-clause-workers g c = λ n is. workers_count (map string_bytes c.args.words.now) (asked_by c.in-Ok.asked) n c.in-Ok.ensures.means is
 
 pub returns-in-Ok-clause-load : goal.returns-in-Ok-clause-load
 returns-in-Ok-clause-load g c = λ asked means n is.
@@ -39,20 +34,16 @@ returns-in-Ok-clause-causes g c = λ asked means none.
     (c.in-Ok.ensures.only asked means) (c.by_words.ensures.causes (ap (λ (a : Asked). a.load) (c.in-Ok.ensures.only asked means) ∙ none))
 
 pub returns-in-Ok-clause-usage : goal.returns-in-Ok-clause-usage
-returns-in-Ok-clause-usage g c = λ is ask.
-    true≢false (sym ask.2 ∙ (sym (ap asks_run (c.in-Ok.ensures.only ask.0 ask.1)) ∙ c.by_words.ensures.usage.0 is))
+returns-in-Ok-clause-usage g c = λ is. absurd (c.by_words.ensures.usage is)
 
-pub returns-in-Ok-clause-unasked : goal.returns-in-Ok-clause-unasked
-returns-in-Ok-clause-unasked g c = λ unasked.
-    inl (c.by_words.ensures.usage.1 (is_false (asks_run (asked_by c.in-Ok.asked)) (λ yes. unasked (asked_by c.in-Ok.asked, c.in-Ok.ensures.means, yes))))
+pub returns-in-Ok-clause-meaningless : goal.returns-in-Ok-clause-meaningless
+returns-in-Ok-clause-meaningless g c = λ none. absurd (none (asked_by c.in-Ok.asked, c.in-Ok.ensures.means))
 
 pub returns-in-Ok-clause-unread : goal.returns-in-Ok-clause-unread
-returns-in-Ok-clause-unread g c = λ unasked.
-    c.by_words.ensures.unread (is_false (asked_by c.in-Ok.asked).replay (λ yes. unasked (asked_by c.in-Ok.asked, c.in-Ok.ensures.means, yes)))
+returns-in-Ok-clause-unread g c = λ none. absurd (none (asked_by c.in-Ok.asked, c.in-Ok.ensures.means))
 
 pub returns-in-Ok-clause-unnamed : goal.returns-in-Ok-clause-unnamed
-returns-in-Ok-clause-unnamed g c = λ unasked.
-    c.by_words.ensures.unnamed (is_false (asks_run (asked_by c.in-Ok.asked)) (λ yes. unasked (asked_by c.in-Ok.asked, c.in-Ok.ensures.means, yes)))
+returns-in-Ok-clause-unnamed g c = λ none. absurd (none (asked_by c.in-Ok.asked, c.in-Ok.ensures.means))
 
 pub returns-in-Ok-clause-complete : goal.returns-in-Ok-clause-complete
 returns-in-Ok-clause-complete g c ask few reads_well writes_well = by (asked_by c.in-Ok.asked).load refl
@@ -67,7 +58,7 @@ returns-in-Ok-clause-complete g c ask few reads_well writes_well = by (asked_by 
         (record { bytes = g.S.Source.left c.args.input.now; faults = g.S.Source.faults c.args.input.now }) (record { bytes = g.S.Source.left c.by_words.new.input; faults = g.S.Source.faults c.by_words.new.input })
         (record { bytes = g.W.Sink.held c.args.output.now; faults = g.W.Sink.faults c.args.output.now }) (record { bytes = g.W.Sink.held c.by_words.new.output; faults = g.W.Sink.faults c.by_words.new.output })
         (c.by_words.ensures.causes is)
-        (λ usage. true≢false (sym ask.2 ∙ (sym (ap asks_run (c.in-Ok.ensures.only ask.0 ask.1)) ∙ c.by_words.ensures.usage.0 usage)))
+        (λ usage. c.by_words.ensures.usage usage)
         few reads_well writes_well
 
 pub returns-in-Ok-clause-text : goal.returns-in-Ok-clause-text
