@@ -10,13 +10,13 @@ ghost use Rattle.aplsv_words.specs.Meaning.{Asked, Means};
 ghost use Rattle.aplsv_top.specs.Causes.{HasCause};
 ghost use Rattle.aplsv_top.specs.Headline.{IsOutputAs};
 ghost use Rattle.aplsv_top.specs.Loads.{HasLoadCause, IsLoadAs};
-ghost use Rattle.aplsv_top.specs.Words.{AskReplay, AskRun, IsConclusion};
+ghost use Rattle.aplsv_top.specs.Words.{HaveMeaning, IsConclusion};
 ghost use Rattle.aplsv_top.specs.declared.status.Status.TheVariants as status;
 
 use apl_arrays::{USER_LIMIT, WantOfMemory};
 use apl_io::{Devices, Sink, Source};
-use aplsv_devices::{DirShelf, DirText, StdSink, StdSource, SystemClock};
-use aplsv_top::{Finish, Status, aplsv_on_one_thread};
+use aplsv_devices::{DirShelf, DirText, OpenGate, StdSink, StdSource, SystemClock};
+use aplsv_top::{Finish, Status, aplsv};
 use bundle_text::BundleRule;
 use refusal_lines::{malformed_lines, usage_lines};
 use std::alloc::{AllocError, Global};
@@ -72,9 +72,9 @@ fn devices(rt: HostRuntime) -> Result<Devices<Text, Clock, Shelf>, WantOfMemory>
 }
 
 // What the program does for its words, the program's name in front, over a source and a sink: what the top call does over the
-// devices of the machine, which tell nothing of what they hold.
+// devices of the machine, which tell nothing of what they hold, and past a gate that stands open.
 fn run<S: Source, W: Sink>(
-    alloc: Global,
+    rt: HostRuntime,
     words: &[String],
     input: &mut S,
     output: &mut W,
@@ -90,12 +90,12 @@ fn run<S: Source, W: Sink>(
         asked devices.clock result.clock devices.text result.text devices.shelves.items result.shelves.items) result.status
         (record { bytes = S.left input.old; faults = S.faults input.old }) (record { bytes = S.left input.new; faults = S.faults input.new })
         (record { bytes = W.held output.old; faults = W.faults output.old }) (record { bytes = W.held output.new; faults = W.faults output.new }) }
-    ensures usage { result.status ≡ status.Usage → ¬ AskRun (map string_bytes (drop 1 words.now)) }
-    ensures unasked { ¬ AskRun (map string_bytes (drop 1 words.now)) → (result.status ≡ status.Usage) ⊎ (result.status ≡ status.WantOfMemory) }
-    ensures unread { ¬ AskReplay (map string_bytes (drop 1 words.now)) → input.new ≡ input.old }
+    ensures usage { result.status ≡ status.Usage → ¬ HaveMeaning (map string_bytes (drop 1 words.now)) }
+    ensures meaningless { ¬ HaveMeaning (map string_bytes (drop 1 words.now)) → (result.status ≡ status.Usage) ⊎ (result.status ≡ status.WantOfMemory) }
+    ensures unread { ¬ HaveMeaning (map string_bytes (drop 1 words.now)) → input.new ≡ input.old }
     ensures refused { result.status ≡ status.Usage → input.new ≡ input.old }
     ensures unwritten { result.status ≢ status.Done → result.status ≢ status.WriteFault → output.new ≡ output.old }
-    ensures complete { AskRun (map string_bytes (drop 1 words.now)) → AreAtMost (S.left input.old) most_input_bytes
+    ensures complete { HaveMeaning (map string_bytes (drop 1 words.now)) → AreAtMost (S.left input.old) most_input_bytes
         → ¬ (Rose (S.faults input.old) (S.faults input.new)) → ¬ (Rose (W.faults output.old) (W.faults output.new))
         → IsConclusion result.status }
 {
@@ -104,14 +104,16 @@ fn run<S: Source, W: Sink>(
         clock,
         shelves,
     } = devices;
-    aplsv_on_one_thread(
-        alloc,
+    aplsv(
+        &rt,
+        rt.alloc(),
         behind_name(words),
         input,
         output,
         text,
         clock,
         shelves,
+        &OpenGate,
     )
 }
 
@@ -128,7 +130,7 @@ fn ending<S: Source, W: Sink>(
 {
     let words = all_words(rt.alloc(), given)?;
     let devices = devices(rt)?;
-    let finish = run(rt.alloc(), &words, input, output, devices);
+    let finish = run(rt, &words, input, output, devices);
     let status = finish.status;
     drop(finish);
     Ok(status)

@@ -76,10 +76,10 @@ fn difference(
 
 /// What differs between how a case ends and how it is to end; nothing where nothing does.
 pub fn difference_of(
-    alloc: Global,
+    rt: &HostRuntime,
     case: &Case<'_>,
     wanted: &Wanted<'_>,
 ) -> Result<Option<String>> {
-    let ended = run(alloc, case)?;
-    Ok(difference(alloc, &ended, wanted)?)
+    let ended = run(rt, case)?;
+    Ok(difference(rt.alloc(), &ended, wanted)?)
 }

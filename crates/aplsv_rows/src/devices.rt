@@ -59,7 +59,10 @@ impl Trial for Devices<'_> {
             bail!("a case and devices are wanted");
         };
         let stored = StoredCase::read(self.rt, *name)?;
-        let ended = run(alloc, &case_over(&stored, *devices).context("no devices")?)?;
+        let ended = run(
+            self.rt,
+            &case_over(&stored, *devices).context("no devices")?,
+        )?;
         let ending = ending_of(alloc, &ended)?;
         let written = written_text(alloc, stored.wanted()?.written, &ended.written)?;
         Ok(format!(in alloc; "{ending} ¦ {written}")?)

@@ -16,7 +16,7 @@ fn sorted_names(rt: &HostRuntime, folder: &str) -> io::Result<Vec<String>> {
 // One line is printed.
 fn stored_differs(rt: &HostRuntime, name: &str) -> Result<bool> {
     let stored = StoredCase::read(rt, name)?;
-    match difference_of(rt.alloc(), &stored.case(), &stored.wanted()?)? {
+    match difference_of(rt, &stored.case(), &stored.wanted()?)? {
         None => {
             println!(rt; "{name}: as wanted")?;
             Ok(false)

@@ -14,7 +14,7 @@ fn prefix_differs(
     wanted: &Wanted<'_>,
     whole: bool,
 ) -> Result<bool> {
-    let ended = run(rt.alloc(), &sound_case(REPLAY, front))?;
+    let ended = run(rt, &sound_case(REPLAY, front))?;
     let is_wanted = if whole {
         ended.code == 0 && ended.written.as_slice() == wanted.written
     } else {

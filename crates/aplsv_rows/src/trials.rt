@@ -10,16 +10,22 @@ use std::str;
 pub const REPLAY: &str = "--replay";
 
 /// Bytes that are refused: the input; the ending. Nothing is written.
-#[derive(Clone, Copy, Debug)]
-pub struct Refusals;
+#[derive(Clone, Copy)]
+pub struct Refusals<'a> {
+    pub rt: &'a HostRuntime,
+}
 
 /// Bundles: the input; the output.
-#[derive(Clone, Copy, Debug)]
-pub struct Texts;
+#[derive(Clone, Copy)]
+pub struct Texts<'a> {
+    pub rt: &'a HostRuntime,
+}
 
 /// Words that have no meaning: the words; the ending. Nothing is read or written.
-#[derive(Clone, Copy, Debug)]
-pub struct Words;
+#[derive(Clone, Copy)]
+pub struct Words<'a> {
+    pub rt: &'a HostRuntime,
+}
 
 // The ending of a run that is to write nothing.
 fn refusal_text(alloc: Global, ended: &ProgramEnd) -> Result<String> {
@@ -30,18 +36,18 @@ fn refusal_text(alloc: Global, ended: &ProgramEnd) -> Result<String> {
     Ok(format!(in alloc; "{ending}, with output")?)
 }
 
-impl Trial for Refusals {
+impl Trial for Refusals<'_> {
     fn given(&self) -> usize {
         1
     }
 
     fn found(&self, alloc: Global, fields: &[&str]) -> Result<String> {
         let input = bytes_of(alloc, *fields.first().context("an input is wanted")?)?;
-        refusal_text(alloc, &run(alloc, &sound_case(REPLAY, &input))?)
+        refusal_text(alloc, &run(self.rt, &sound_case(REPLAY, &input))?)
     }
 }
 
-impl Trial for Words {
+impl Trial for Words<'_> {
     fn given(&self) -> usize {
         1
     }
@@ -49,18 +55,18 @@ impl Trial for Words {
     fn found(&self, alloc: Global, fields: &[&str]) -> Result<String> {
         let words = bytes_of(alloc, *fields.first().context("words are wanted")?)?;
         let case = sound_case(str::from_utf8(&words)?, b"end\n");
-        refusal_text(alloc, &run(alloc, &case)?)
+        refusal_text(alloc, &run(self.rt, &case)?)
     }
 }
 
-impl Trial for Texts {
+impl Trial for Texts<'_> {
     fn given(&self) -> usize {
         1
     }
 
     fn found(&self, alloc: Global, fields: &[&str]) -> Result<String> {
         let input = bytes_of(alloc, *fields.first().context("an input is wanted")?)?;
-        let ended = run(alloc, &sound_case(REPLAY, &input))?;
+        let ended = run(self.rt, &sound_case(REPLAY, &input))?;
         let ending = ending_of(alloc, &ended)?;
         if ending.as_str() != "done" {
             return Ok(ending);
