@@ -23,6 +23,8 @@ use std::alloc::{AllocError, Global};
 use std::env::{self, Args};
 use std::io::{self, ErrorKind};
 use std::process::{self, ExitCode};
+use std::sync::Wait;
+use std::thread::Threads;
 
 type Text = DirText<HostRuntime>;
 
@@ -73,8 +75,9 @@ fn devices(rt: HostRuntime) -> Result<Devices<Text, Clock, Shelf>, WantOfMemory>
 
 // What the program does for its words, the program's name in front, over a source and a sink: what the top call does over the
 // devices of the machine, which tell nothing of what they hold, and past a gate that stands open.
-fn run<S: Source, W: Sink>(
-    rt: HostRuntime,
+fn run<R: Threads + Wait + Sync, S: Source, W: Sink>(
+    threads: &R,
+    alloc: Global,
     words: &[String],
     input: &mut S,
     output: &mut W,
@@ -105,8 +108,8 @@ fn run<S: Source, W: Sink>(
         shelves,
     } = devices;
     aplsv(
-        &rt,
-        rt.alloc(),
+        threads,
+        alloc,
         behind_name(words),
         input,
         output,
@@ -118,8 +121,9 @@ fn run<S: Source, W: Sink>(
 }
 
 // How it ends for the words of the process.
-fn ending<S: Source, W: Sink>(
+fn ending<R: Threads + Wait + Sync, S: Source, W: Sink>(
     rt: HostRuntime,
+    threads: &R,
     given: Args,
     input: &mut S,
     output: &mut W,
@@ -130,19 +134,24 @@ fn ending<S: Source, W: Sink>(
 {
     let words = all_words(rt.alloc(), given)?;
     let devices = devices(rt)?;
-    let finish = run(rt, &words, input, output, devices);
+    let finish = run(threads, rt.alloc(), &words, input, output, devices);
     let status = finish.status;
     drop(finish);
     Ok(status)
 }
 
 // The same, where words that are no text have no meaning.
-fn status_of<S: Source, W: Sink>(rt: HostRuntime, input: &mut S, output: &mut W) -> Status
+fn status_of<R: Threads + Wait + Sync, S: Source, W: Sink>(
+    rt: HostRuntime,
+    threads: &R,
+    input: &mut S,
+    output: &mut W,
+) -> Status
     ensures unread { result ≡ status.Usage → input.new ≡ input.old }
     ensures unwritten { result ≢ status.Done → result ≢ status.WriteFault → output.new ≡ output.old }
 {
     match env::args(&rt) {
-        Ok(given) => match ending(rt, given, input, output) {
+        Ok(given) => match ending(rt, threads, given, input, output) {
             Ok(status) => status,
             Err(WantOfMemory) => Status::WantOfMemory,
         },
@@ -180,7 +189,7 @@ fn say(rt: &HostRuntime, status: Status, read: Option<&[u8]>) -> io::Result<()> 
 fn main(rt: HostRuntime) -> ExitCode {
     let mut input = StdSource::new(rt.alloc(), rt.stdin());
     let mut output = StdSink::new(rt.stdout());
-    let status = status_of(rt, &mut input, &mut output);
+    let status = status_of(rt, &rt, &mut input, &mut output);
     if status != Status::Done {
         // Where standard error fails too, the exit status still tells.
         let _ = say(&rt, status, input.kept());

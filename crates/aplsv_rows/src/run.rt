@@ -8,6 +8,8 @@ use apl_arrays::{Bytes, FileList, List, USER_LIMIT, WantOfMemory};
 use apl_io::{CallNumbers, MemoryClock, MemoryShelf, MemorySink, MemorySource, MemoryText};
 use aplsv_top::{Status, aplsv};
 use std::alloc::Global;
+use std::sync::Wait;
+use std::thread::Threads;
 
 /// How a run ended: its exit status, its text on standard error, and the bytes that it wrote.
 #[derive(Debug, Drop)]
@@ -46,18 +48,20 @@ fn shelves(alloc: Global) -> Result<Vec<MemoryShelf>, WantOfMemory>
 }
 
 // What the program ends with over these words, source and sink, past a gate, and over no file, no reading and empty shelves.
-fn finished(
-    rt: &HostRuntime,
+fn finished<R: Threads + Wait + Sync>(
+    threads: &R,
+    alloc: Global,
     words: &[String],
     source: &mut MemorySource,
     sink: &mut MemorySink,
     gate: &Meeting,
 ) -> Result<Status, WantOfMemory> {
-    let alloc = rt.alloc();
     let shelves = shelves(alloc)?;
     let text = MemoryText::new(alloc, FileList::new(alloc), CallNumbers::new(alloc));
     let clock = MemoryClock::new(List::new(alloc), CallNumbers::new(alloc));
-    let finish = aplsv(rt, alloc, words, source, sink, text, clock, shelves, gate);
+    let finish = aplsv(
+        threads, alloc, words, source, sink, text, clock, shelves, gate,
+    );
     let status = finish.status;
     drop(finish);
     Ok(status)
@@ -78,17 +82,17 @@ pub fn ended_as(alloc: Global, status: Status, written: &[u8]) -> Result<Program
 }
 
 // A run into a sink of its own.
-fn run_into_sink(
-    rt: &HostRuntime,
+fn run_into_sink<R: Threads + Wait + Sync>(
+    threads: &R,
+    alloc: Global,
     case: &Case<'_>,
     words: &[String],
     source: &mut MemorySource,
     gate: &Meeting,
 ) -> Result<ProgramEnd, WantOfMemory> {
-    let alloc = rt.alloc();
     let Device { piece, fails } = case.sink;
     let mut sink = MemorySink::new(alloc, case.room, piece.max(1), numbers(alloc, fails)?)?;
-    let ended = match finished(rt, words, source, &mut sink, gate) {
+    let ended = match finished(threads, alloc, words, source, &mut sink, gate) {
         Ok(status) => ended_as(alloc, status, sink.bytes()),
         Err(WantOfMemory) => Err(WantOfMemory),
     };
@@ -96,26 +100,39 @@ fn run_into_sink(
     ended
 }
 
-fn run_once(rt: &HostRuntime, case: &Case<'_>, gate: &Meeting) -> Result<ProgramEnd, WantOfMemory> {
-    let alloc = rt.alloc();
+fn run_once<R: Threads + Wait + Sync>(
+    threads: &R,
+    alloc: Global,
+    case: &Case<'_>,
+    gate: &Meeting,
+) -> Result<ProgramEnd, WantOfMemory> {
     let words = words_of(alloc, case.words)?;
     let input = Bytes::from(Vec::from_slice(alloc, case.input)?);
     let Device { piece, fails } = case.source;
     let mut source = MemorySource::new(input, piece.max(1), numbers(alloc, fails)?);
-    let ended = run_into_sink(rt, case, &words, &mut source, gate);
+    let ended = run_into_sink(threads, alloc, case, &words, &mut source, gate);
     drop(source);
     ended
 }
 
 /// Runs a case, once more where memory was refused.
-pub fn run(rt: &HostRuntime, case: &Case<'_>) -> Result<ProgramEnd> {
-    run_past(rt, case, &Meeting::of(0))
+pub fn run<R: Threads + Wait + Sync>(
+    threads: &R,
+    alloc: Global,
+    case: &Case<'_>,
+) -> Result<ProgramEnd> {
+    run_past(threads, alloc, case, &Meeting::of(0))
 }
 
 /// Runs a case past a gate, once more where memory was refused.
-pub fn run_past(rt: &HostRuntime, case: &Case<'_>, gate: &Meeting) -> Result<ProgramEnd> {
-    match run_once(rt, case, gate) {
-        Err(WantOfMemory) => Ok(run_once(rt, case, gate)?),
+pub fn run_past<R: Threads + Wait + Sync>(
+    threads: &R,
+    alloc: Global,
+    case: &Case<'_>,
+    gate: &Meeting,
+) -> Result<ProgramEnd> {
+    match run_once(threads, alloc, case, gate) {
+        Err(WantOfMemory) => Ok(run_once(threads, alloc, case, gate)?),
         Ok(ended) => Ok(ended),
     }
 }

@@ -6,44 +6,51 @@ use anyhow::{Context, Result, bail};
 use case_tables::{Trial, bytes_of};
 use std::alloc::Global;
 use std::str;
+use std::sync::Wait;
+use std::thread::Threads;
 
 /// Bundles of stored cases on threads, of which the journal is the same however the turns fall: the case, and the words. It ends
 /// as the case does, and writes the same.
 #[derive(Clone, Copy)]
-pub struct OneJournal<'a> {
+pub struct OneJournal<'a, R> {
     pub rt: &'a HostRuntime,
+    pub threads: &'a R,
 }
 
 /// Bundles of stored cases on threads where users meet before their first turns: the case, the words, and how many users meet.
 /// They meet, and all is done.
 #[derive(Clone, Copy)]
-pub struct Meetings<'a> {
+pub struct Meetings<'a, R> {
     pub rt: &'a HostRuntime,
+    pub threads: &'a R,
 }
 
 /// Bundles of stored cases on threads of which the last transcript ends with the same lines in each run without an access that
 /// was abandoned: the case, the words, and these lines.
 #[derive(Clone, Copy)]
-pub struct LastLines<'a> {
+pub struct LastLines<'a, R> {
     pub rt: &'a HostRuntime,
+    pub threads: &'a R,
 }
 
 // The run of a stored case's bundle by other words, past a gate.
-fn threaded(
-    rt: &HostRuntime,
+fn threaded<R: Threads + Wait + Sync>(
+    threads: &R,
+    alloc: Global,
     stored: &StoredCase,
     words: &str,
     gate: &Meeting,
 ) -> Result<ProgramEnd> {
-    let words = bytes_of(rt.alloc(), words)?;
+    let words = bytes_of(alloc, words)?;
     run_past(
-        rt,
+        threads,
+        alloc,
         &sound_case(str::from_utf8(&words)?, stored.case().input),
         gate,
     )
 }
 
-impl Trial for OneJournal<'_> {
+impl<R: Threads + Wait + Sync> Trial for OneJournal<'_, R> {
     fn given(&self) -> usize {
         2
     }
@@ -53,7 +60,7 @@ impl Trial for OneJournal<'_> {
             bail!("a case and words are wanted");
         };
         let stored = StoredCase::read(self.rt, *name)?;
-        let ended = threaded(self.rt, &stored, *words, &Meeting::of(0))?;
+        let ended = threaded(self.threads, alloc, &stored, *words, &Meeting::of(0))?;
         let wanted = stored.wanted()?;
         let code = ended.code;
         Ok(if code != wanted.code {
@@ -66,7 +73,7 @@ impl Trial for OneJournal<'_> {
     }
 }
 
-impl Trial for Meetings<'_> {
+impl<R: Threads + Wait + Sync> Trial for Meetings<'_, R> {
     fn given(&self) -> usize {
         3
     }
@@ -77,7 +84,7 @@ impl Trial for Meetings<'_> {
         };
         let stored = StoredCase::read(self.rt, *name)?;
         let gate = Meeting::of(users.parse().ok().context("no number of users")?);
-        let code = threaded(self.rt, &stored, *words, &gate)?.code;
+        let code = threaded(self.threads, alloc, &stored, *words, &gate)?.code;
         let meeting = if gate.have_met() { "met" } else { "went alone" };
         Ok(format!(in alloc; "{meeting}, status {code}")?)
     }
@@ -91,7 +98,7 @@ fn ends_with(output: &str, lines: &str) -> bool {
     }
 }
 
-impl Trial for LastLines<'_> {
+impl<R: Threads + Wait + Sync> Trial for LastLines<'_, R> {
     fn given(&self) -> usize {
         3
     }
@@ -101,7 +108,7 @@ impl Trial for LastLines<'_> {
             bail!("a case, words and lines are wanted");
         };
         let stored = StoredCase::read(self.rt, *name)?;
-        let ended = threaded(self.rt, &stored, *words, &Meeting::of(0))?;
+        let ended = threaded(self.threads, alloc, &stored, *words, &Meeting::of(0))?;
         let lines = bytes_of(alloc, *lines)?;
         let output = str::from_utf8(&ended.written)?;
         let was_abandoned = output.split_once(" : abandoned ").is_some();

@@ -31,6 +31,7 @@ pub(crate) trait Driver {
 }
 
 /// On one thread, in turns.
+#[derive(Drop)]
 pub(crate) struct InTurns;
 
 impl Driver for InTurns {
@@ -51,6 +52,7 @@ impl Driver for InTurns {
 }
 
 /// On threads, by so many workers, past a gate.
+#[derive(Drop)]
 pub(crate) struct OnThreads<'a, R, G> {
     pub rt: &'a R,
     pub workers: u32,
