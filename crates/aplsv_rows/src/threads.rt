@@ -93,7 +93,7 @@ impl<R: Threads + Wait + Sync> Trial for Meetings<'_, R> {
 // Whether the transcripts of an output end with these lines.
 fn ends_with(output: &str, lines: &str) -> bool {
     match output.split_once("\njournal\n") {
-        Some((transcripts, _)) => transcripts.ends_with(lines),
+        Some((transcripts, _)) => transcripts.strip_suffix(lines).is_some(),
         None => false,
     }
 }
