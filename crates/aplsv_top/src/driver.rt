@@ -27,7 +27,7 @@ pub(crate) trait Driver {
         shelves: Vec<K>,
     ) -> RunOf<X, Y, K>
         requires { length bundle.users ≤ vec_len shelves }
-        ensures { IfWhole result.ended (λ transcripts journal. RunBy Self.in_turns X.forgets X.replies Y.forgets Y.replies K.told K.faults bundle journal transcripts ten result.ten twenty result.twenty shelves.items result.shelves.items) };
+        ensures { IfWhole result.ended (λ transcripts journal. RunBy in_turns X.forgets X.replies Y.forgets Y.replies K.told K.faults bundle journal transcripts ten result.ten twenty result.twenty shelves.items result.shelves.items) };
 }
 
 /// On one thread, in turns.
