@@ -53,6 +53,9 @@ ADD %
 
 const NAMES: &str = "XYZ";
 
+/// What stands behind the users and the order of each bundle: a file, and readings.
+pub const BEHIND: &str = "file NOTES\n|ONE\n|TWO\nclock 5 6 7 8 9\nend\n";
+
 // The line of a number among them.
 fn line_at(at: u64) -> &'static str {
     let mut left = at;
@@ -118,18 +121,13 @@ fn add_user(
     Ok(())
 }
 
-/// The sections of a bundle drawn by lot, without its last line: up to so many users with their lines, a file, and readings.
-pub fn drawn_sections(
-    alloc: Global,
-    lots: &mut Lots,
-    most_users: u64,
-) -> Result<String, AllocError> {
+/// The users of a bundle drawn by lot, up to so many, with their lines.
+pub fn drawn_users(alloc: Global, lots: &mut Lots, most_users: u64) -> Result<String, AllocError> {
     let mut text = String::new(alloc);
     let kinds = LINES.lines().count() as u64;
     let users = lots.below(most_users).saturating_add(1);
     for user in 0..users {
         add_user(&mut text, lots, users, user, kinds)?;
     }
-    text.push_str("file NOTES\n|ONE\n|TWO\nclock 5 6 7 8 9\n")?;
     Ok(text)
 }

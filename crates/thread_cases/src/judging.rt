@@ -1,5 +1,5 @@
 use crate::dawdling::Dawdling;
-use crate::drawing::drawn_sections;
+use crate::drawing::{BEHIND, drawn_users};
 use crate::lots::Lots;
 use crate::runs::{replayed, threaded};
 use anyhow::{Result, bail};
@@ -15,14 +15,14 @@ pub struct Judged {
     pub is_other: bool,
 }
 
-// The bundle of some sections, with an order of turns: the parties of the entries of an output.
-fn in_order(alloc: Global, sections: &str, output: &[u8]) -> Result<String> {
+// The bundle of some users, with an order of turns: the parties of the entries of an output.
+fn in_order(alloc: Global, users: &str, output: &[u8]) -> Result<String> {
     let printed = match read(alloc, None, output) {
         Ok(printed) => printed,
         Err(PrintedRefused::Departs(offset)) => bail!("no output from byte {offset} on"),
         Err(PrintedRefused::WantOfMemory) => bail!("out of memory"),
     };
-    let mut text = String::from_str(alloc, sections)?;
+    let mut text = String::from_str(alloc, users)?;
     let entries = printed.journal();
     if !entries.is_empty() {
         text.push_str("order")?;
@@ -32,14 +32,14 @@ fn in_order(alloc: Global, sections: &str, output: &[u8]) -> Result<String> {
         }
         text.push('\n')?;
     }
-    text.push_str("end\n")?;
+    text.push_str(BEHIND)?;
     drop(printed);
     Ok(text)
 }
 
-// The bundle of some sections.
-fn whole(alloc: Global, sections: &str) -> Result<String> {
-    Ok(format!(in alloc; "{sections}end\n")?)
+// The bundle of some users.
+fn whole(alloc: Global, users: &str) -> Result<String> {
+    Ok(format!(in alloc; "{users}{BEHIND}")?)
 }
 
 /// Draws a bundle and how many workers run it, and judges what they write: it is an output, and the replay of the bundle in
@@ -52,9 +52,9 @@ pub fn judge<R: Threads + Wait + Sync>(
     most_users: u64,
 ) -> Result<Judged> {
     let mut lots = Lots::of(seed);
-    let sections = drawn_sections(alloc, &mut lots, most_users)?;
+    let users = drawn_users(alloc, &mut lots, most_users)?;
     let workers = lots.below(34).saturating_add(1);
-    let bundle = whole(alloc, sections.as_str())?;
+    let bundle = whole(alloc, users.as_str())?;
     let output = threaded(
         threads,
         alloc,
@@ -62,7 +62,7 @@ pub fn judge<R: Threads + Wait + Sync>(
         workers,
         &Dawdling::of(seed),
     )?;
-    let ordered = in_order(alloc, sections.as_str(), &output)?;
+    let ordered = in_order(alloc, users.as_str(), &output)?;
     let judged = replayed(alloc, ordered.as_str())?;
     let alone = replayed(alloc, bundle.as_str())?;
     Ok(Judged {
