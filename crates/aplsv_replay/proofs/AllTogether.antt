@@ -1,6 +1,6 @@
 -- Parties that stay those of a bundle while they take turns.
-use Rattle.std.proofs.Common.{◌≡◌, ◌≢◌, ℕ, ◌&&◌, ◌||◌, Bool, true, false, not, eqb, List, [], ◌∷◌, map, Option, IsTrue, refl, sym, ap, ap₂, subst, ◌∙◌}
-use Rattle.std.specs.List.{All, AllByRecursion, list_all}
+use Rattle.std.proofs.Common.{◌≡◌, ◌≢◌, ℕ, ◌||◌, Bool, true, false, not, eqb, List, [], ◌∷◌, map, Option, IsTrue, refl, sym, ap, ap₂, subst, ◌∙◌}
+use Rattle.std.specs.List.{All, AllByRecursion}
 use Rattle.std.specs.Prelude.{sum_by}
 use Rattle.std.proofs.lemmas.Bool.{eq-eqb, or_from, or_left, or_right}
 use Rattle.std.proofs.lemmas.Simd.{map-map}
@@ -14,7 +14,7 @@ use Rattle.bundle_text.specs.User.{PlainUser}
 use Rattle.sv_core.proofs.People.{no_auxiliaries}
 use Rattle.sv_core.specs.Core.{ArePeople, PlainCore}
 use Rattle.aux_parties.specs.Auxiliaries.{is_auxiliary, party_of}
-use Rattle.sv_rules.specs.Entries.{Entries, has_left}
+use Rattle.sv_rules.specs.Entries.{Entries}
 use Rattle.sv_rules.specs.Legal.{is_user}
 use Rattle.aux_parties.specs.declared.auxiliary.AuxiliaryKind.{AuxiliaryKind}
 use Rattle.aux_parties.specs.declared.auxiliary.AuxiliaryKind.TheVariants.{Clock, TextFiles}
@@ -22,19 +22,21 @@ use Rattle.aux_parties.proofs.TableLemmas.{kinds_are_auxiliaries, kinds_differ}
 use Rattle.session_rules.specs.Auxiliaries.{acts_among, events_of, some_stay}
 use Rattle.session_rules.specs.Behind.{Behind, forgets_of, of_each, replies_of}
 use Rattle.session_rules.specs.Run.{Dealings, user_numbers}
-use Rattle.aplsv_replay.specs.Participants.{users_of}
-use Rattle.aplsv_replay.specs.SeatTurns.{AreSeatTurns, none_lost, seat_numbers}
-use Rattle.aplsv_replay.specs.Sittings.{Sitting, lent_to, seats_in}
-use Rattle.aplsv_replay.specs.SoFar.{GrowsBy, HasAnswered, IsSeated, IsWholeUnlessLost, user_of, user_work}
+use Rattle.party_turns.specs.Participants.{users_of}
+use Rattle.aplsv_replay.specs.SeatTurns.{AreSeatTurns}
+use Rattle.party_turns.specs.Seats.{none_lost, seat_numbers}
+use Rattle.party_turns.specs.Sittings.{Sitting, seats_in}
+use Rattle.party_turns.specs.SoFar.{GrowsBy, HasAnswered, IsSeated, IsWholeUnlessLost, user_of, user_work}
 use Rattle.aplsv_replay.specs.Together.{AreOfSomeBundle, AreTogether, StayTogether, TakesTurns, TookTurns, WorksAs, auxiliary_of, none_is_lost}
-use Rattle.aplsv_replay.specs.declared.auxiliary.Auxiliary.{Auxiliary}
+use Rattle.party_turns.specs.declared.auxiliary.Auxiliary.{Auxiliary}
 use Rattle.aplsv_replay.specs.declared.parties.Parties.{Parties}
-use Rattle.aplsv_replay.specs.declared.seat.UserSeat.{UserSeat}
+use Rattle.party_turns.specs.declared.seat.UserSeat.{UserSeat}
 use Rattle.replay_rules.specs.Turns.{Replay, AfterTurns, numbers_of, turns_where, user_turns}
-use Rattle.aplsv_replay.proofs.Growth.{AreNone, AreOthers, among_are_others, among_grows, among_stays, events_stay, is_no_user, none_of_people, own_are_others, some_stay_same}
+use Rattle.party_turns.proofs.Growth.{AreNone, AreOthers, among_are_others, among_grows, among_stays, events_stay, is_no_user, none_of_people, own_are_others, some_stay_same}
 use Rattle.aplsv_replay.proofs.KindLemmas.{had_memory, memory_of, memory_of_all, memory_of_users, same_auxiliaries, with_auxiliary}
 use Rattle.aplsv_replay.proofs.Taking.{numbers_by_participants, stays_at}
-use Rattle.aplsv_replay.proofs.SeatTurns.{all_grown_seated, all_grown_whole, not_lost_before, seats_work_stays}
+use Rattle.aplsv_replay.proofs.SeatTurns.{not_lost_before, seats_work_stays}
+use Rattle.party_turns.proofs.Others.{all_grown_seated, all_grown_whole}
 
 -- ---- the numbers of seats
 
@@ -281,13 +283,3 @@ module _ {X Y K : Type 0} (forgets_ten : X → ℕ → X → Type 0) (replies_te
   pub users_stay_on : (p : Parties X Y K) → AreOfSomeBundle forgets_ten replies_ten forgets_twenty replies_twenty told faults p → some_stay p.core.users p.core.journal ≡ stays_at p
   users_stay_on p h =
       ap (λ (users : List ℕ). some_stay users p.core.journal) (sym (seats_are_users forgets_ten replies_ten forgets_twenty replies_twenty told faults h.bundle h.ten h.twenty h.shelves p h.sittings h.together))
-
--- all have left where none stays
-left_or_stays : (left rest stay : Bool) → rest ≡ not stay → (left && rest) ≡ not (not left || stay)
-left_or_stays true rest stay is = is
-left_or_stays false rest stay is = refl
-
-pub all_left_by : {K : Type 0} (journal : Entries) (seats : List (UserSeat K)) → list_all (λ seat. has_left journal seat.session.user) seats ≡ not (some_stay (seat_numbers seats) journal)
-all_left_by journal [] = refl
-all_left_by journal (seat ∷ seats) =
-    left_or_stays (has_left journal seat.session.user) (list_all (λ s. has_left journal s.session.user) seats) (some_stay (seat_numbers seats) journal) (all_left_by journal seats)

@@ -19,17 +19,17 @@ use Rattle.sv_rules.specs.Work.{work_of}
 use Rattle.aux_parties.specs.declared.auxiliary.AuxiliaryKind.{AuxiliaryKind}
 use Rattle.session_rules.specs.Auxiliaries.{some_stay}
 use Rattle.session_rules.specs.Behind.{Behind, forgets_of, replies_of}
-use Rattle.aplsv_replay.specs.Participants.{users_of}
+use Rattle.party_turns.specs.Participants.{users_of}
 use Rattle.aplsv_replay.specs.SeatTurns.{work_left}
-use Rattle.aplsv_replay.specs.Sittings.{Sitting}
-use Rattle.aplsv_replay.specs.SoFar.{GrowsBy, HasAnswered, IsIdleIf, IsServed, user_work}
+use Rattle.party_turns.specs.Sittings.{Sitting}
+use Rattle.party_turns.specs.SoFar.{GrowsBy, HasAnswered, IsIdleIf, IsServed, user_work}
 use Rattle.aplsv_replay.specs.Together.{LeavesLess, TakesTurns, TookTurns, auxiliary_of}
-use Rattle.aplsv_replay.specs.declared.auxiliary.Auxiliary.{Auxiliary}
+use Rattle.party_turns.specs.declared.auxiliary.Auxiliary.{Auxiliary}
 use Rattle.aplsv_replay.specs.declared.parties.Parties.{Parties}
-use Rattle.aplsv_replay.specs.declared.seat.UserSeat.{UserSeat}
+use Rattle.party_turns.specs.declared.seat.UserSeat.{UserSeat}
 use Rattle.replay_rules.specs.Turns.{Participant, Replay, AfterAuxiliaryTurn, auxiliary_turn, served, served_by, with_left}
 use Rattle.aplsv_replay.proofs.AllTogether.{auxiliary_keeps}
-use Rattle.aplsv_replay.proofs.Growth.{counted_grows}
+use Rattle.party_turns.proofs.Growth.{counted_grows}
 use Rattle.aplsv_replay.proofs.KindLemmas.{had_memory, is_changed, memory_of, memory_of_all, memory_of_users, stays_lost, with_auxiliary}
 use Rattle.aplsv_replay.proofs.SeatTurns.{not_lost_before}
 

@@ -11,10 +11,10 @@ use Rattle.sv_rules.specs.Entries.{Entries, counted_entries, has_left}
 use Rattle.session_rules.specs.SessionLaws.{tells_full}
 use Rattle.apl_session.specs.PlainSession.{PlainSession}
 use Rattle.aplsv_replay.specs.Rounds.{most_rounds}
-use Rattle.aplsv_replay.specs.SoFar.{user_of, user_work}
+use Rattle.party_turns.specs.SoFar.{user_of, user_work}
 use Rattle.aplsv_replay.specs.Together.{TakesRounds, TakesTurns, left_to_do}
 use Rattle.aplsv_replay.specs.declared.parties.Parties.{Parties}
-use Rattle.aplsv_replay.specs.declared.seat.UserSeat.{UserSeat}
+use Rattle.party_turns.specs.declared.seat.UserSeat.{UserSeat}
 use Rattle.replay_rules.specs.Turns.{round, rounds}
 use Rattle.aplsv_replay.proofs.Taking.{stays_at, takes_none, takes_round}
 

@@ -16,7 +16,7 @@ use Rattle.sv_journal.specs.Output.{PlainTranscript}
 use Rattle.aux_parties.specs.declared.auxiliary.AuxiliaryKind.TheVariants.{TextFiles}
 use Rattle.sv_rules.specs.Entries.{Entries}
 use Rattle.aplsv_replay.specs.Replayed.{IsDeviceRun, IsRunInTurns}
-use Rattle.aplsv_replay.proofs.Ends.{whole_more}
+use Rattle.party_turns.proofs.Parts.{whole_more}
 
 module _ {C T K : Type 0} (ticks : C → Option Ticks) (clock_faults : C → ℕ) (text_told : T → Option (Told (List ℕ))) (text_faults : T → ℕ) (told : K → Option (Told (ℕ × List ℕ))) (faults : K → ℕ) (bundle : PlainBundle) (shelves shelves_then : List K) where
   -- a run with the repliers of the clock and the text files

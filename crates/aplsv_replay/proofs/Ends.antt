@@ -1,19 +1,16 @@
 -- A replay from its beginning to its end.
-use Rattle.std.proofs.Common.{◌≡◌, ℕ, ◌<◌, ◌≤◌, Bool, true, false, not, eqb, leb, List, [], ◌∷◌, ◌++◌, length, map, reverse, IsTrue, refl, sym, ap, ap₂, subst, subst₂, ◌∙◌, arith}
+use Rattle.std.proofs.Common.{◌≡◌, ℕ, ◌≤◌, Bool, true, false, List, [], ◌∷◌, ◌++◌, length, map, reverse, IsTrue, refl, sym, ap, ap₂, subst, subst₂, ◌∙◌}
 use Rattle.std.specs.List.{All, AllByRecursion}
-use Rattle.std.specs.Prelude.{IfSome, Option, Some, None, if◌then◌else◌}
-use Rattle.std.proofs.lemmas.Bool.{and_from, and_parts, eq-eqb, le-leb, ne_eqb, not-true, or_parts}
+use Rattle.std.specs.Prelude.{IfSome, Option}
 use Rattle.std.proofs.lemmas.List.{length-map}
 use Rattle.std.proofs.lemmas.Simd.{map-map}
-use Rattle.std.proofs.lemmas.List.Elements.{All-cons, All-head, All-nil, All-tail, All-from_recursion, recursion_from_All}
+use Rattle.std.proofs.lemmas.List.Elements.{All-from_recursion, recursion_from_All}
 use Rattle.apl_arrays.specs.Array.{PlainArray, chars}
 use Rattle.apl_arrays.specs.Ascending.{AscendBy}
 use Rattle.apl_arrays.specs.List.{Listed}
-use Rattle.apl_arrays.specs.Parties.{first_user, is_user_number, last_user}
 use Rattle.apl_io.specs.Content.{Told}
-use Rattle.bundle_text.specs.Rules.{IsBundle, IsUser, PlainBundle}
-use Rattle.bundle_text.specs.User.{PlainUser, plain_user}
-use Rattle.bundle_text.specs.declared.user.BundleUser.{BundleUser}
+use Rattle.bundle_text.specs.Rules.{IsBundle, PlainBundle}
+use Rattle.bundle_text.specs.User.{PlainUser}
 use Rattle.sv_core.specs.Core.{ArePeople, PlainCore}
 use Rattle.sv_events.specs.Entry.{PlainEntry}
 use Rattle.sv_journal.specs.Output.{PlainTranscript}
@@ -25,42 +22,27 @@ use Rattle.aux_parties.specs.declared.auxiliary.AuxiliaryKind.TheVariants.{Clock
 use Rattle.session_rules.specs.Auxiliaries.{IsAuxiliaryPart, events_of, some_stay}
 use Rattle.session_rules.specs.Behind.{Behind, forgets_of, of_each, replies_of}
 use Rattle.session_rules.specs.Run.{AreUserParts, Dealings, IsRun, ServeUsers, user_numbers}
-use Rattle.session_rules.specs.Shelf.{Exchange, IsShelfRun}
-use Rattle.session_rules.specs.UserPart.{IsUserPart}
 use Rattle.apl_session.specs.Ended.{IfWhole}
-use Rattle.apl_session.specs.Wants.{HasHeardAll}
 use Rattle.apl_session.specs.declared.outcome.Ended.{Ended}
-use Rattle.apl_session.specs.declared.outcome.Ended.TheVariants.{Whole, WantOfMemory}
-use Rattle.apl_session.specs.declared.session.SessionStage.{SessionStage}
 use Rattle.auxiliaries.specs.Run.{IsReplierRun}
 use Rattle.aplsv_replay.specs.Endings.{ComesOf, RunIsWhole}
-use Rattle.aplsv_replay.specs.Participants.{users_of}
+use Rattle.party_turns.specs.Participants.{users_of}
 use Rattle.aplsv_replay.specs.Rounds.{IsReplay, most_rounds}
-use Rattle.aplsv_replay.specs.SeatTurns.{AreSeated, none_lost, seat_numbers}
-use Rattle.aplsv_replay.specs.Seats.{HasPrinted, end_by, transcript_of}
-use Rattle.aplsv_replay.specs.Sittings.{EndsIn, Sitting, lent_to, seats_in}
-use Rattle.aplsv_replay.specs.SoFar.{HasPart, IsSeated, IsWholeUnlessLost, echoed_and_printed, user_of}
+use Rattle.party_turns.specs.Seats.{HasPrinted, end_by, none_lost, transcript_of}
+use Rattle.party_turns.specs.SoFar.{AreSeated, IsSeated, IsWholeUnlessLost, user_of}
+use Rattle.party_turns.specs.Sittings.{Sitting, lent_to, seats_in}
 use Rattle.aplsv_replay.specs.Together.{AreTogether, TakesRounds, TakesTurns, TookTurns, WorksAs, auxiliary_of, none_is_lost}
-use Rattle.aplsv_replay.specs.declared.auxiliary.Auxiliary.{Auxiliary}
+use Rattle.party_turns.specs.declared.auxiliary.Auxiliary.{Auxiliary}
 use Rattle.aplsv_replay.specs.declared.parties.Parties.{Parties}
-use Rattle.aplsv_replay.specs.declared.seat.UserSeat.{UserSeat}
+use Rattle.party_turns.specs.declared.seat.UserSeat.{UserSeat}
 use Rattle.replay_rules.specs.Turns.{HasReplies, Participant, Replay, beginning, newcomer, ordered, rounds}
 use Rattle.aplsv_replay.proofs.AllTogether.{seats_ascend}
 use Rattle.aplsv_replay.proofs.Bound.{few_rounds}
-use Rattle.aplsv_replay.proofs.Growth.{first_below, others_ascend}
+use Rattle.party_turns.proofs.Parts.{all_left, all_printed, dealings_of, each_deals, each_ends, if_whole, parts_of, serve_users, users_are_people, whole_more}
 use Rattle.aplsv_replay.proofs.KindLemmas.{memory_of, memory_of_users, repliers_are}
 use Rattle.aplsv_replay.proofs.Taking.{takes_both}
 
 -- ---- the beginning
-
--- users of a bundle have the numbers of users
-pub users_are_people : (users : List PlainUser) → All IsUser users → ArePeople (map (λ user. user.number) users)
-users_are_people [] each = All-nil (λ (number : ℕ). is_user_number number ≡ true)
-users_are_people (user ∷ users) each =
-    All-cons (λ (number : ℕ). is_user_number number ≡ true) user.number (map (λ (one : PlainUser). one.number) users)
-    (and_from (leb first_user user.number) (leb user.number last_user) (le-leb first_user user.number (All-head IsUser user users each).number.0)
-    (le-leb user.number last_user (All-head IsUser user users each).number.1))
-    (users_are_people users (All-tail IsUser user users each))
 
 module _ {K : Type 0} (told : K → Option (Told (ℕ × List ℕ))) (faults : K → ℕ) where
   -- nobody has left an empty journal
@@ -99,105 +81,7 @@ module _ {X Y K : Type 0} (forgets_ten : X → ℕ → X → Type 0) (replies_te
         among = refl;
       }
 
--- ---- the dealings of a run
-
--- what the shelf of a user was asked, by the user's number
-abbrev dealings_of : {K : Type 0} → List (Sitting K) → Dealings
-dealings_of [] number = []
-dealings_of (sitting ∷ sittings) number = if eqb sitting.seat.session.user number then sitting.exchanges else dealings_of sittings number
-
--- those of one user are no other's
-others_deal : {K : Type 0} (sitting : Sitting K) (all rest : List (Sitting K)) → AllByRecursion (λ other. sitting.seat.session.user < other) (seat_numbers (seats_in rest)) → AllByRecursion (λ (s : Sitting K). dealings_of all s.seat.session.user ≡ s.exchanges) rest
-    → AllByRecursion (λ (s : Sitting K). dealings_of (sitting ∷ all) s.seat.session.user ≡ s.exchanges) rest
-others_deal sitting all [] below h = tt
-others_deal {K = K} sitting all (s ∷ rest) below h =
-    let less : sitting.seat.session.user < s.seat.session.user = below.0 in (
-      ap (λ (same : Bool). if same then sitting.exchanges else dealings_of all s.seat.session.user) (ne_eqb sitting.seat.session.user s.seat.session.user (λ is. omega (arith, less, is))) ∙ h.0,
-      others_deal sitting all rest below.1 h.1,
-    )
-
-each_deals : {K : Type 0} (sittings : List (Sitting K)) → AscendBy (λ s. s.session.user) (seats_in sittings) → AllByRecursion (λ (s : Sitting K). dealings_of sittings s.seat.session.user ≡ s.exchanges) sittings
-each_deals [] ascend = tt
-each_deals (sitting ∷ sittings) ascend =
-    let number : ℕ = sitting.seat.session.user in (
-      ap (λ (same : Bool). if same then sitting.exchanges else dealings_of sittings number) (eq-eqb number number refl),
-      others_deal sitting sittings sittings (first_below number (seat_numbers (seats_in sittings)) ascend) (each_deals sittings (others_ascend number (seat_numbers (seats_in sittings)) ascend)),
-    )
-
--- so these are all in the end
-each_ends : {K : Type 0} (final : Dealings) (sittings : List (Sitting K)) → AllByRecursion (λ (s : Sitting K). final s.seat.session.user ≡ s.exchanges) sittings → AllByRecursion (EndsIn final) sittings
-each_ends final [] h = tt
-each_ends final (sitting ∷ sittings) h = (record { more = []; is = h.0 }, each_ends final sittings h.1)
-
 -- ---- the end
-
--- where no user stays all have left
-all_left : (users : List PlainUser) (journal : Entries) → some_stay (map (λ user. user.number) users) journal ≡ false → AllByRecursion (λ (user : PlainUser). IsTrue (has_left journal user.number)) users
-all_left [] journal over = tt
-all_left (user ∷ users) journal over =
-    let both = or_parts (not (has_left journal user.number)) (some_stay (map (λ user. user.number) users) journal) over in
-    (left_by (has_left journal user.number) both.0, all_left users journal both.1)
-  where
-    left_by : (left : Bool) → not left ≡ false → left ≡ true
-    left_by true e = refl
-    left_by false e = absurd (let no : true ≡ false = e in cc)
-
-module _ {K : Type 0} (told : K → Option (Told (ℕ × List ℕ))) (faults : K → ℕ) (dealings : Dealings) (journal : Entries) where
-  -- a user that has left, and for which memory did not run out, has its part
-  part_at : (sitting : Sitting K) (others : List (UserSeat K)) (user : PlainUser) → user_of sitting.seat.session ≡ user → IsTrue (none_lost (sitting.seat ∷ others)) → IsWholeUnlessLost told faults journal sitting → IsTrue (has_left journal user.number) → HasPart told faults journal sitting
-  part_at sitting others user first here whole left =
-      let mine = and_parts (not sitting.seat.is_lost) (none_lost others) here in
-      whole (not-true sitting.seat.is_lost mine.0) (ap (λ (n : ℕ). has_left journal n) (ap (λ (u : PlainUser). u.number) first) ∙ left)
-
-  -- each user has its part then, where memory ran out for none
-  parts_of : (sittings : List (Sitting K)) (users : List PlainUser) → map (λ s. user_of s.seat.session) sittings ≡ users → IsTrue (none_lost (seats_in sittings)) → AllByRecursion (IsWholeUnlessLost told faults journal) sittings
-      → AllByRecursion (λ (user : PlainUser). IsTrue (has_left journal user.number)) users → AllByRecursion (λ (s : Sitting K). dealings s.seat.session.user ≡ s.exchanges) sittings → AreUserParts dealings journal users (map transcript_of sittings)
-  parts_of [] [] same here whole left deals = tt
-  parts_of [] (user ∷ users) same here whole left deals = absurd (let no : [] ≡ user ∷ users = same in cc)
-  parts_of (sitting ∷ sittings) [] same here whole left deals = absurd (let no : user_of sitting.seat.session ∷ map (λ (s : Sitting K). user_of s.seat.session) sittings ≡ [] = same in cc)
-  parts_of (sitting ∷ sittings) (user ∷ users) same here whole left deals =
-      let both : user_of sitting.seat.session ∷ map (λ (s : Sitting K). user_of s.seat.session) sittings ≡ user ∷ users = same in
-      let first : user_of sitting.seat.session ≡ user = cc in
-      let others : map (λ (s : Sitting K). user_of s.seat.session) sittings ≡ users = cc in
-      let number : sitting.seat.session.user ≡ user.number = ap (λ (u : PlainUser). u.number) first in
-      let h = part_at sitting (seats_in sittings) user first here whole.0 left.0 in (
-        number,
-        subst (λ (e : List Exchange). IsUserPart journal user e (echoed_and_printed sitting.exchanges sitting.seat.session)) (sym deals.0 ∙ ap dealings number)
-            (subst (λ (u : PlainUser). IsUserPart journal u sitting.exchanges (echoed_and_printed sitting.exchanges sitting.seat.session)) first h.part),
-        parts_of sittings users others (and_parts (not sitting.seat.is_lost) (none_lost (seats_in sittings)) here).1 whole.1 left.1 deals.1,
-      )
-
-  -- its shelf served it
-  serve_users : (sittings : List (Sitting K)) (users : List PlainUser) (rest : List K) → map (λ s. user_of s.seat.session) sittings ≡ users → IsTrue (none_lost (seats_in sittings)) → AllByRecursion (IsWholeUnlessLost told faults journal) sittings
-      → AllByRecursion (λ (user : PlainUser). IsTrue (has_left journal user.number)) users → AllByRecursion (λ (s : Sitting K). dealings s.seat.session.user ≡ s.exchanges) sittings
-      → ServeUsers told faults dealings users (lent_to sittings ++ rest) (map (λ seat. seat.session.shelf) (seats_in sittings) ++ rest)
-  serve_users [] [] rest same here whole left deals = refl
-  serve_users [] (user ∷ users) rest same here whole left deals = absurd (let no : [] ≡ user ∷ users = same in cc)
-  serve_users (sitting ∷ sittings) [] rest same here whole left deals = absurd (let no : user_of sitting.seat.session ∷ map (λ (s : Sitting K). user_of s.seat.session) sittings ≡ [] = same in cc)
-  serve_users (sitting ∷ sittings) (user ∷ users) rest same here whole left deals =
-      let both : user_of sitting.seat.session ∷ map (λ (s : Sitting K). user_of s.seat.session) sittings ≡ user ∷ users = same in
-      let first : user_of sitting.seat.session ≡ user = cc in
-      let others : map (λ (s : Sitting K). user_of s.seat.session) sittings ≡ users = cc in
-      let number : sitting.seat.session.user ≡ user.number = ap (λ (u : PlainUser). u.number) first in
-      let h = part_at sitting (seats_in sittings) user first here whole.0 left.0 in (
-        subst (λ (e : List Exchange). IsShelfRun told faults user.number sitting.lent e sitting.seat.session.shelf) (sym deals.0 ∙ ap dealings number)
-            (subst (λ (n : ℕ). IsShelfRun told faults n sitting.lent sitting.exchanges sitting.seat.session.shelf) number h.come.served),
-        serve_users sittings users rest others (and_parts (not sitting.seat.is_lost) (none_lost (seats_in sittings)) here).1 whole.1 left.1 deals.1,
-      )
-
-  -- and all were heard
-  all_printed : (sittings : List (Sitting K)) (users : List PlainUser) → map (λ s. user_of s.seat.session) sittings ≡ users → IsTrue (none_lost (seats_in sittings)) → AllByRecursion (IsWholeUnlessLost told faults journal) sittings
-      → AllByRecursion (λ (user : PlainUser). IsTrue (has_left journal user.number)) users → AllByRecursion (HasPrinted told faults) sittings
-  all_printed [] users same here whole left = tt
-  all_printed (sitting ∷ sittings) [] same here whole left = absurd (let no : user_of sitting.seat.session ∷ map (λ (s : Sitting K). user_of s.seat.session) sittings ≡ [] = same in cc)
-  all_printed (sitting ∷ sittings) (user ∷ users) same here whole left =
-      let both : user_of sitting.seat.session ∷ map (λ (s : Sitting K). user_of s.seat.session) sittings ≡ user ∷ users = same in
-      let first : user_of sitting.seat.session ≡ user = cc in
-      let others : map (λ (s : Sitting K). user_of s.seat.session) sittings ≡ users = cc in
-      let h = part_at sitting (seats_in sittings) user first here whole.0 left.0 in (
-        record { heard = subst (λ (at : SessionStage). HasHeardAll at) (sym h.finished) tt; come = h.come },
-        all_printed sittings users others (and_parts (not sitting.seat.is_lost) (none_lost (seats_in sittings)) here).1 whole.1 left.1,
-      )
 
 module _ {X Y K : Type 0} (forgets_ten : X → ℕ → X → Type 0) (replies_ten : X → ℕ → PlainArray → PlainArray → X → Type 0)
     (forgets_twenty : Y → ℕ → Y → Type 0) (replies_twenty : Y → ℕ → PlainArray → PlainArray → Y → Type 0) (told : K → Option (Told (ℕ × List ℕ))) (faults : K → ℕ)
@@ -280,18 +164,6 @@ module _ {X Y K : Type 0} (forgets_ten : X → ℕ → X → Type 0) (replies_te
 
 -- ---- the answer
 
--- where a run is whole this holds, if it does where the transcripts are there and memory ran out for nobody
-pub if_whole : (transcripts : Option (Listed PlainTranscript)) (journal : Listed PlainEntry) (is_whole : Bool) (P : List PlainTranscript → Entries → Type 0)
-    → ((list : Listed PlainTranscript) → transcripts ≡ Some list → is_whole ≡ true → P list.items (reverse journal.items)) → IfWhole (end_by transcripts journal is_whole) P
-if_whole None journal is_whole P h = tt
-if_whole (Some list) journal true P h = h list refl refl
-if_whole (Some list) journal false P h = tt
-
--- what is known of a whole run says more
-pub whole_more : (ended : Ended) (P Q : List PlainTranscript → Entries → Type 0) → ((transcripts : List PlainTranscript) (journal : Entries) → P transcripts journal → Q transcripts journal) → IfWhole ended P → IfWhole ended Q
-whole_more (Whole transcripts journal) P Q more h = more transcripts.items (reverse journal.items) h
-whole_more WantOfMemory P Q more h = tt
-
 module _ {X Y K : Type 0} (told : K → Option (Told (ℕ × List ℕ))) (faults : K → ℕ) (p : Parties X Y K) where
   -- what is known of the transcripts where there are some
   abbrev pub ArePrinted : List PlainTranscript → Type 0
@@ -345,8 +217,3 @@ module _ {X Y K : Type 0} (forgets_ten : X → ℕ → X → Type 0) (replies_te
       → AreTogether forgets_ten replies_ten forgets_twenty replies_twenty told faults bundle ten twenty lent q nows → length q.seats.items ≡ length p.seats.items
   same_seats bundle ten twenty lent p q sittings nows h also =
       sym (length-map q.seats.items (λ seat. user_of seat.session)) ∙ ap (λ (list : List PlainUser). length list) (also.users ∙ sym h.users) ∙ length-map p.seats.items (λ seat. user_of seat.session)
-
--- the numbers of users as they are kept
-pub plain_numbers : (kept : List BundleUser) (users : List PlainUser) → map plain_user kept ≡ users → map (λ user. user.number) kept ≡ map (λ user. user.number) users
-plain_numbers [] users is = ap (λ (list : List PlainUser). map (λ (user : PlainUser). user.number) list) is
-plain_numbers (user ∷ kept) users is = ap (λ (list : List ℕ). user.number ∷ list) (plain_numbers kept (map plain_user kept) refl) ∙ ap (λ (list : List PlainUser). map (λ (user : PlainUser). user.number) list) is

@@ -5,9 +5,9 @@ use Rattle.session_rules.specs.Behind.{Behind, of_each}
 use Rattle.sv_core.specs.Core.{PlainCore}
 use Rattle.aux_parties.specs.declared.auxiliary.AuxiliaryKind.{AuxiliaryKind}
 use Rattle.aux_parties.specs.declared.auxiliary.AuxiliaryKind.TheVariants.{Clock, TextFiles}
-use Rattle.aplsv_replay.specs.SeatTurns.{none_lost}
+use Rattle.party_turns.specs.Seats.{none_lost}
 use Rattle.aplsv_replay.specs.Together.{auxiliary_of, none_is_lost}
-use Rattle.aplsv_replay.specs.declared.auxiliary.Auxiliary.{Auxiliary}
+use Rattle.party_turns.specs.declared.auxiliary.Auxiliary.{Auxiliary}
 use Rattle.aplsv_replay.specs.declared.parties.Parties.{Parties}
 
 -- the parties with another processor, and with another auxiliary of a kind

@@ -7,9 +7,9 @@ use Rattle.session_rules.specs.Behind.{Behind, forgets_of, replies_of}
 use Rattle.sv_core.specs.Core.{PlainCore}
 use Rattle.aux_parties.specs.Auxiliaries.{is_auxiliary, party_of}
 use Rattle.aux_parties.specs.declared.auxiliary.AuxiliaryKind.{AuxiliaryKind}
-use Rattle.aplsv_replay.specs.SoFar.{GrowsBy, HasAnswered, IsIdleIf, IsServed}
+use Rattle.party_turns.specs.SoFar.{GrowsBy, HasAnswered, IsIdleIf, IsServed}
 use Rattle.aplsv_replay.specs.Together.{AreOfSomeBundle, LeavesLess, TookAuxiliaryTurn, auxiliary_of}
-use Rattle.aplsv_replay.specs.declared.auxiliary.Auxiliary.{Auxiliary}
+use Rattle.party_turns.specs.declared.auxiliary.Auxiliary.{Auxiliary}
 use Rattle.aplsv_replay.specs.declared.parties.Parties.{Parties}
 use Rattle.aplsv_replay.proofs.AllTogether.{is_auxiliary_of, same_work, still_stay}
 use Rattle.aplsv_replay.proofs.AuxiliaryTurns.{auxiliary_leaves_less, lost_still, takes_auxiliary}

@@ -20,13 +20,14 @@ use Rattle.aux_parties.proofs.TableLemmas.{all_pass, of_kinds, of_rows}
 use Rattle.session_rules.specs.Auxiliaries.{some_stay}
 use Rattle.apl_io.specs.Content.{Told}
 use Rattle.apl_session.specs.PlainSession.{PlainSession}
-use Rattle.aplsv_replay.specs.SeatTurns.{AreSeatTurns, IsHeld, has_turn, seat_numbers, work_left}
-use Rattle.aplsv_replay.specs.Sittings.{Sitting, seats_in}
-use Rattle.aplsv_replay.specs.SoFar.{user_work}
+use Rattle.aplsv_replay.specs.SeatTurns.{AreSeatTurns, IsHeld, has_turn, work_left}
+use Rattle.party_turns.specs.Seats.{seat_numbers}
+use Rattle.party_turns.specs.Sittings.{Sitting, seats_in}
+use Rattle.party_turns.specs.SoFar.{user_work}
 use Rattle.aplsv_replay.specs.Together.{LeavesLess, auxiliary_of, left_to_do}
 use Rattle.aplsv_replay.specs.declared.parties.Parties.{Parties}
-use Rattle.aplsv_replay.specs.declared.seat.UserSeat.{UserSeat}
-use Rattle.aplsv_replay.proofs.Sits.{sum_of_seen}
+use Rattle.party_turns.specs.declared.seat.UserSeat.{UserSeat}
+use Rattle.party_turns.proofs.Sits.{sum_of_seen}
 
 -- some user is still held, in a run that does not close
 record SomeHeld (closes : Bool) (core : PlainCore) : Type 0 where

@@ -1,5 +1,5 @@
 -- Turns of users, one after another.
-use Rattle.std.proofs.Common.{◌≡◌, ℕ, ◌+◌, ◌-◌, ◌<◌, ◌⊎◌, Bool, true, false, not, List, [], ◌∷◌, ◌++◌, length, Option, inl, inr, IsTrue, refl, sym, ap, ap₂, subst, subst₂, ◌∙◌, arith}
+use Rattle.std.proofs.Common.{◌≡◌, ℕ, ◌+◌, ◌-◌, ◌<◌, ◌⊎◌, Bool, true, false, List, [], ◌∷◌, ◌++◌, length, Option, inl, inr, IsTrue, refl, sym, ap, ap₂, subst₂, ◌∙◌, arith}
 use Rattle.std.specs.List.{AllByRecursion}
 use Rattle.std.specs.Prelude.{◌==◌, count_by, sum_by, if◌then◌else◌}
 use Rattle.std.proofs.lemmas.Bool.{both_ways, eq-eqb, or_left, or_right}
@@ -13,13 +13,14 @@ use Rattle.session_rules.specs.SessionLaws.{tells_full}
 use Rattle.session_rules.specs.Shelf.{Exchange, shelf_replies_in}
 use Rattle.apl_session.specs.PlainSession.{PlainSession}
 use Rattle.replay_rules.specs.Turns.{AfterTurn, turn}
-use Rattle.aplsv_replay.specs.Participants.{participant_of, participant_with}
-use Rattle.aplsv_replay.specs.SeatTurns.{AreSeatTurns, IsHeld, IsSeatTurn, seat_numbers}
-use Rattle.aplsv_replay.specs.Sittings.{Sitting, seats_in}
-use Rattle.aplsv_replay.specs.SoFar.{GoesOn, GrowsBy, HasTurned, IsSameUser, IsSeated, SittingIsWhole, IsWholeUnlessLost, TakesTurn, user_of, user_work, work_with}
-use Rattle.aplsv_replay.specs.declared.seat.UserSeat.{UserSeat}
-use Rattle.aplsv_replay.proofs.Growth.{AreOthers, has_left_stays, own_are_others, part_stays, so_far_stays}
-use Rattle.aplsv_replay.proofs.Leaving.{gone_turn, left_seated}
+use Rattle.party_turns.specs.Participants.{participant_of}
+use Rattle.aplsv_replay.specs.SeatTurns.{AreSeatTurns, IsHeld, IsSeatTurn}
+use Rattle.party_turns.specs.Seats.{seat_numbers}
+use Rattle.party_turns.specs.Sittings.{Sitting}
+use Rattle.party_turns.specs.SoFar.{GoesOn, GrowsBy, HasTurned, IsSameUser, IsSeated, SittingIsWhole, TakesTurn, user_work, work_with}
+use Rattle.party_turns.specs.declared.seat.UserSeat.{UserSeat}
+use Rattle.party_turns.proofs.Growth.{AreOthers, has_left_stays, own_are_others}
+use Rattle.party_turns.proofs.Leaving.{gone_turn, left_seated}
 
 -- ---- one user
 
@@ -132,32 +133,6 @@ module _ {K : Type 0} (told : K → Option (Told (ℕ × List ℕ))) (faults : K
       by false false false was stays is lost_now before_it = let t = takes is lost_now stays sat refl (seated stays) in of_goer stays t.0 t.1 t.2
 
 -- ---- one user before others
-
-module _ {K : Type 0} (told : K → Option (Told (ℕ × List ℕ))) (faults : K → ℕ) where
-  -- where the entries of others follow
-  pub grown_seated : (entries journal after : Entries) (sitting : Sitting K) → after ≡ entries ++ journal → AreOthers sitting.seat.session.user entries → IsSeated told faults journal sitting → IsSeated told faults after sitting
-  grown_seated entries journal after sitting is others h =
-      subst (λ (j : Entries). IsSeated told faults j sitting) (sym is)
-      (λ stays.
-      let here = h (sym (has_left_stays entries journal sitting.seat.session.user others) ∙ stays) in
-      record { here = here.here; come = here.come; so_far = λ more. so_far_stays entries journal (participant_with (shelf_replies_in sitting.exchanges ++ more) sitting.seat.session) _ others (here.so_far more) })
-
-  pub grown_whole : (entries journal after : Entries) (sitting : Sitting K) → after ≡ entries ++ journal → AreOthers sitting.seat.session.user entries → SittingIsWhole told faults journal sitting → SittingIsWhole told faults after sitting
-  grown_whole entries journal after sitting is others h =
-      subst (λ (j : Entries). SittingIsWhole told faults j sitting) (sym is)
-      (λ left. let part = h (sym (has_left_stays entries journal sitting.seat.session.user others) ∙ left) in
-      record { finished = part.finished; come = part.come; part = part_stays entries journal (user_of sitting.seat.session) sitting.exchanges _ others part.part })
-
-  -- the same of some users
-  pub all_grown_seated : (entries journal after : Entries) (sittings : List (Sitting K)) → after ≡ entries ++ journal → AllByRecursion (λ (number : ℕ). AreOthers number entries) (seat_numbers (seats_in sittings))
-      → AllByRecursion (IsSeated told faults journal) sittings → AllByRecursion (IsSeated told faults after) sittings
-  all_grown_seated entries journal after [] is others h = tt
-  all_grown_seated entries journal after (sitting ∷ sittings) is others h = (grown_seated entries journal after sitting is others.0 h.0, all_grown_seated entries journal after sittings is others.1 h.1)
-
-  pub all_grown_whole : (entries journal after : Entries) (sittings : List (Sitting K)) → after ≡ entries ++ journal → AllByRecursion (λ (number : ℕ). AreOthers number entries) (seat_numbers (seats_in sittings))
-      → AllByRecursion (IsWholeUnlessLost told faults journal) sittings → AllByRecursion (IsWholeUnlessLost told faults after) sittings
-  all_grown_whole entries journal after [] is others h = tt
-  all_grown_whole entries journal after (sitting ∷ sittings) is others h = ((λ here. grown_whole entries journal after sitting is others.0 (h.0 here)), all_grown_whole entries journal after sittings is others.1 h.1)
 
 -- a user's entries are those of none that comes behind it
 pub behind_others : (number : ℕ) (numbers : List ℕ) (entries : Entries) → AllByRecursion (λ other. number < other) numbers → AllByRecursion (λ e. e.party ≡ number) entries → AllByRecursion (λ (other : ℕ). AreOthers other entries) numbers

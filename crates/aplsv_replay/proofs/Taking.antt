@@ -9,12 +9,12 @@ use Rattle.bundle_text.specs.Rules.{PlainBundle}
 use Rattle.aux_parties.specs.Auxiliaries.{is_auxiliary}
 use Rattle.session_rules.specs.Auxiliaries.{some_stay}
 use Rattle.session_rules.specs.Run.{Dealings}
-use Rattle.aplsv_replay.specs.Participants.{users_of}
-use Rattle.aplsv_replay.specs.SeatTurns.{seat_numbers}
-use Rattle.aplsv_replay.specs.Sittings.{EndsIn, Sitting}
+use Rattle.party_turns.specs.Participants.{users_of}
+use Rattle.party_turns.specs.Seats.{seat_numbers}
+use Rattle.party_turns.specs.Sittings.{EndsIn, Sitting}
 use Rattle.aplsv_replay.specs.Together.{AreTogether, StayTogether, TakesTurns, TookTurns}
 use Rattle.aplsv_replay.specs.declared.parties.Parties.{Parties}
-use Rattle.aplsv_replay.specs.declared.seat.UserSeat.{UserSeat}
+use Rattle.party_turns.specs.declared.seat.UserSeat.{UserSeat}
 use Rattle.replay_rules.specs.Turns.{Replay, auxiliary_turn, some_user_stays, numbers_of, ordered, party_turn, round, rounds, user_turns}
 
 -- turns that are taken while some user stays

@@ -19,15 +19,17 @@ use Rattle.sv_rules.specs.Legal.{is_user}
 use Rattle.session_rules.specs.Run.{Dealings}
 use Rattle.session_rules.specs.Shelf.{Exchange}
 use Rattle.apl_session.specs.PlainSession.{PlainSession}
-use Rattle.replay_rules.specs.Turns.{Participant, AfterTurn, AfterTurns, turn, turns_where}
-use Rattle.aplsv_replay.specs.Participants.{participant_of, users_of}
-use Rattle.aplsv_replay.specs.SeatTurns.{AreSeatTurns, GrowsAmong, IsHeld, IsSeatTurn, none_lost, seat_numbers, work_left}
-use Rattle.aplsv_replay.specs.Sittings.{EndsIn, ExchangesFollow, Sitting, seats_in}
-use Rattle.aplsv_replay.specs.SoFar.{IsSameSitting, IsSeated, IsWholeUnlessLost, user_of, user_work}
-use Rattle.aplsv_replay.specs.declared.seat.UserSeat.{UserSeat}
-use Rattle.aplsv_replay.proofs.Growth.{AreOthers, among_are_others, below_is_none, first_below}
-use Rattle.aplsv_replay.proofs.Sits.{sum_of_seen}
-use Rattle.aplsv_replay.proofs.SeatTurns.{all_grown_seated, all_grown_whole, behind_others, both_less, first_less, grown_seated, grown_whole, not_lost_before, others_less, others_weaker, own_weaker, seats_work_stays, work_stays}
+use Rattle.replay_rules.specs.Turns.{Participant, AfterTurn, AfterTurns, turns_where}
+use Rattle.party_turns.specs.Participants.{participant_of, users_of}
+use Rattle.aplsv_replay.specs.SeatTurns.{AreSeatTurns, GrowsAmong, IsHeld, IsSeatTurn, work_left}
+use Rattle.party_turns.specs.Seats.{none_lost, seat_numbers}
+use Rattle.party_turns.specs.Sittings.{EndsIn, ExchangesFollow, Sitting, seats_in}
+use Rattle.party_turns.specs.SoFar.{IsSameSitting, IsSeated, IsWholeUnlessLost, user_of, user_work}
+use Rattle.party_turns.specs.declared.seat.UserSeat.{UserSeat}
+use Rattle.party_turns.proofs.Growth.{AreOthers, among_are_others, below_is_none, first_below}
+use Rattle.party_turns.proofs.Sits.{sum_of_seen}
+use Rattle.aplsv_replay.proofs.SeatTurns.{behind_others, both_less, first_less, not_lost_before, others_less, others_weaker, own_weaker, seats_work_stays, work_stays}
+use Rattle.party_turns.proofs.Others.{all_grown_seated, all_grown_whole, grown_seated, grown_whole}
 
 -- exchanges that follow others that follow
 follow_on : (one two three : List Exchange) → ExchangesFollow one two → ExchangesFollow two three → ExchangesFollow one three

@@ -6,10 +6,10 @@ use Rattle.bundle_text.specs.Rules.{PlainBundle}
 use Rattle.sv_journal.specs.Output.{PlainTranscript}
 use Rattle.sv_rules.specs.Entries.{Entries}
 use Rattle.sv_rules.specs.Legal.{IsLegal}
-use Rattle.aplsv_replay.specs.Participants.{users_of}
+use Rattle.party_turns.specs.Participants.{users_of}
 use Rattle.aplsv_replay.specs.Rounds.{IsReplay}
-use Rattle.aplsv_replay.specs.Seats.{HasPrinted, transcript_of}
-use Rattle.aplsv_replay.specs.Sittings.{Sitting, seats_in}
+use Rattle.party_turns.specs.Seats.{HasPrinted, transcript_of}
+use Rattle.party_turns.specs.Sittings.{Sitting, seats_in}
 use Rattle.aplsv_replay.specs.Together.{AreTogether, none_is_lost}
 use Rattle.session_rules.specs.Run.{Dealings, IsRun}
 use Rattle.replay_rules.specs.Turns.{newcomer}

@@ -1,10 +1,5 @@
 pub mod Endings
-pub mod Participants
 pub mod Replayed
 pub mod Rounds
 pub mod SeatTurns
-pub mod Seats
-pub mod Serving
-pub mod Sittings
-pub mod SoFar
 pub mod Together

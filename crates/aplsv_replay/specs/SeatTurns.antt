@@ -1,6 +1,5 @@
 -- The turns of users beside a journal, one after another.
-use Rattle.std.specs.Prelude.{◌≡◌, ◌⊎◌, ◌<◌, ◌+◌, ◌-◌, ◌==◌, ◌++◌, ℕ, Bool, true, false, not, List, Option, Some, None, All, IsTrue, map, sum_by, if◌then◌else◌}
-use Rattle.std.specs.List.{list_all}
+use Rattle.std.specs.Prelude.{◌≡◌, ◌⊎◌, ◌<◌, ◌+◌, ◌-◌, ◌==◌, ◌++◌, ℕ, Bool, true, false, List, Option, Some, None, All, IsTrue, map, sum_by, if◌then◌else◌}
 use Rattle.sv_rules.specs.Limits.{most_entries}
 use Rattle.apl_io.specs.Content.{Told}
 use Rattle.sv_core.specs.Core.{PlainCore}
@@ -8,23 +7,16 @@ use Rattle.sv_rules.specs.Entries.{Entries, counted_entries, has_left}
 use Rattle.sv_rules.specs.Legal.{is_still_held, is_user}
 use Rattle.session_rules.specs.Run.{Dealings}
 use Rattle.replay_rules.specs.Turns.{turn, turns_where}
-use Rattle.aplsv_replay.specs.Participants.{participant_of, users_of}
-use Rattle.aplsv_replay.specs.Sittings.{EndsIn, Sitting, lent_to, seats_in}
-use Rattle.aplsv_replay.specs.SoFar.{GrowsBy, IsSameSitting, IsSeated, SittingIsWhole, IsWholeUnlessLost, user_of, user_work, work_with}
-use Rattle.aplsv_replay.specs.declared.seat.UserSeat.{UserSeat}
+use Rattle.party_turns.specs.Participants.{participant_of, users_of}
+use Rattle.party_turns.specs.Seats.{none_lost, seat_numbers}
+use Rattle.party_turns.specs.Sittings.{EndsIn, Sitting, lent_to, seats_in}
+use Rattle.party_turns.specs.SoFar.{GrowsBy, IsSameSitting, IsSeated, SittingIsWhole, IsWholeUnlessLost, user_of, user_work, work_with}
+use Rattle.party_turns.specs.declared.seat.UserSeat.{UserSeat}
 
 -- it is the turn of a user: of each, or of the one with this number
 abbrev pub has_turn : Option ℕ → ℕ → Bool
 has_turn None user = true
 has_turn (Some party) user = user == party
-
--- the numbers of seats' users
-abbrev pub seat_numbers : {K : Type 0} → List (UserSeat K) → List ℕ
-seat_numbers seats = map (λ seat. seat.session.user) seats
-
--- memory ran out for none of these users
-abbrev pub none_lost : {K : Type 0} → List (UserSeat K) → Bool
-none_lost seats = list_all (λ seat. not seat.is_lost) seats
 
 -- a user that stays was still held, in a run that does not close
 abbrev pub IsHeld : {K : Type 0} → Bool → Bool → PlainCore → UserSeat K → Type 0
@@ -42,18 +34,6 @@ pub record GrowsAmong (parties : List ℕ) (before after : PlainCore) : Type 0 w
   pub journal : after.journal ≡ entries ++ before.journal
 
 module _ {K : Type 0} (told : K → Option (Told (ℕ × List ℕ))) (faults : K → ℕ) where
-  -- some users are seated
-  pub record AreSeated (journal : Entries) (seats : List (UserSeat K)) : Type 0 where
-    pub sittings : List (Sitting K)
-    pub here : seats_in sittings ≡ seats
-    pub seated : All (IsSeated told faults journal) sittings
-
-  -- one user is
-  pub record IsOneSeated (journal : Entries) (seat : UserSeat K) : Type 0 where
-    pub sitting : Sitting K
-    pub here : sitting.seat ≡ seat
-    pub seated : IsSeated told faults journal sitting
-
   -- the turn of a user, where it is due: from where it sat to where it sits
   pub record IsSeatTurn (due closes : Bool) (before : PlainCore) (sitting : Sitting K) (after : PlainCore) (seat : UserSeat K) : Type 0 where
     pub now : Sitting K

@@ -11,15 +11,17 @@ use Rattle.sv_rules.specs.Entries.{Entries}
 use Rattle.sv_rules.specs.Work.{work_of}
 use Rattle.aux_parties.specs.declared.auxiliary.AuxiliaryKind.{AuxiliaryKind}
 use Rattle.aux_parties.specs.declared.auxiliary.AuxiliaryKind.TheVariants.{Clock, TextFiles}
-use Rattle.session_rules.specs.Auxiliaries.{acts_among, some_stay}
+use Rattle.session_rules.specs.Auxiliaries.{some_stay}
 use Rattle.session_rules.specs.Behind.{Behind, forgets_of, of_each, replies_of}
 use Rattle.session_rules.specs.Run.{Dealings, user_numbers}
-use Rattle.aplsv_replay.specs.Participants.{users_of}
-use Rattle.aplsv_replay.specs.SeatTurns.{none_lost, work_left}
-use Rattle.aplsv_replay.specs.Sittings.{EndsIn, Sitting, lent_to, seats_in}
-use Rattle.aplsv_replay.specs.SoFar.{HasAnswered, IsSeated, IsWholeUnlessLost, user_of}
+use Rattle.party_turns.specs.Participants.{users_of}
+use Rattle.aplsv_replay.specs.SeatTurns.{work_left}
+use Rattle.party_turns.specs.Seats.{none_lost}
+use Rattle.party_turns.specs.Serving.{IsAtWork}
+use Rattle.party_turns.specs.Sittings.{EndsIn, Sitting, lent_to, seats_in}
+use Rattle.party_turns.specs.SoFar.{IsSeated, IsWholeUnlessLost, user_of}
 use Rattle.replay_rules.specs.Turns.{Replay, auxiliary_turn, rounds}
-use Rattle.aplsv_replay.specs.declared.auxiliary.Auxiliary.{Auxiliary}
+use Rattle.party_turns.specs.declared.auxiliary.Auxiliary.{Auxiliary}
 use Rattle.aplsv_replay.specs.declared.parties.Parties.{Parties}
 
 -- memory ran out for nobody
@@ -42,12 +44,6 @@ pub record LeavesLess {X Y K : Type 0} (party : ℕ) (lost : Bool) (before after
   pub most : left_to_do after ≤ left_to_do before
   pub rests : (left_to_do after < left_to_do before) ⊎ ((lost ≡ true) ⊎ ((after.core ≡ before.core) × (work_of before.core.journal party ≡ Idle)))
   pub seats : after.seats ≡ before.seats
-
--- an auxiliary of a run between two turns: it has this number; what answers behind it came to where it is by the auxiliary's entries, of which nothing is said once memory ran out for it; and before each of these entries some user had not left
-pub record IsAtWork {S : Type 0} (forgets : S → ℕ → S → Type 0) (replies : S → ℕ → PlainArray → PlainArray → S → Type 0) (users : List ℕ) (party : ℕ) (start : S) (journal : Entries) (aux : Auxiliary S) : Type 0 where
-  pub number : aux.party ≡ party
-  pub answered : aux.is_lost ≡ false → HasAnswered forgets replies start journal aux
-  pub among : IsTrue (acts_among users party journal)
 
 module _ {X Y : Type 0} (forgets_ten : X → ℕ → X → Type 0) (replies_ten : X → ℕ → PlainArray → PlainArray → X → Type 0)
     (forgets_twenty : Y → ℕ → Y → Type 0) (replies_twenty : Y → ℕ → PlainArray → PlainArray → Y → Type 0) where

@@ -6,15 +6,13 @@ ghost use Rattle.aplsv_replay.specs.Replayed.{IsDeviceRun, IsRunInTurns};
 ghost use Rattle.aplsv_replay.specs.Endings.{ComesOf, RunIsWhole};
 ghost use Rattle.aplsv_replay.specs.Together.{AreOfSomeBundle};
 
-use crate::auxiliary::Auxiliary;
-use crate::ending::{end_of, take_apart};
 use crate::parties::Parties;
-use crate::start::{core_of, fill, room_for};
 use apl_io::{Clock, Devices, Shelf, TextStore};
 use apl_session::{Ended, FinishedRun, RunOf};
 use aux_parties::{CLOCK_PARTY, TEXT_PARTY};
 use auxiliaries::{ClockAux, Replier, TextAux};
 use bundle_text::{Bundle, BundleParts};
+use party_turns::{Auxiliary, core_of, end_of, fill, room_for, take_apart};
 use std::alloc::Global;
 
 /// Runs a bundle on one thread over a text store, a clock, and a shelf for each user: first the turns of the order, then

@@ -3,18 +3,17 @@ ghost use Rattle.apl_arrays.specs.Ascending.{AscendBy};
 ghost use Rattle.sv_core.specs.Core.{ArePeople};
 ghost use Rattle.sv_rules.specs.Legal.{is_user};
 ghost use Rattle.session_rules.specs.Auxiliaries.{some_stay};
-ghost use Rattle.aplsv_replay.specs.SeatTurns.{AreSeatTurns, AreSeated, IsOneSeated, IsSeatTurn, has_turn, seat_numbers};
-ghost use Rattle.aplsv_replay.specs.Sittings.{Sitting, seats_in};
-ghost use Rattle.aplsv_replay.specs.SoFar.{IsSeated};
+ghost use Rattle.aplsv_replay.specs.SeatTurns.{AreSeatTurns, IsSeatTurn, has_turn};
+ghost use Rattle.party_turns.specs.Seats.{seat_numbers};
+ghost use Rattle.party_turns.specs.SoFar.{AreSeated, IsOneSeated, IsSeated};
+ghost use Rattle.party_turns.specs.Sittings.{Sitting, seats_in};
 ghost use Rattle.aplsv_replay.specs.Together.{AreOfSomeBundle, TakesRounds, TakesTurns, TookAuxiliaryTurn, left_to_do, none_is_lost};
 ghost use Rattle.replay_rules.specs.Turns.{ordered, party_turn, round};
 
-use crate::auxiliary::Auxiliary;
-use crate::ending::none_is_lost;
-use crate::seat::UserSeat;
 use apl_io::Shelf;
 use aux_parties::{AuxiliaryKind, auxiliary_at};
 use auxiliaries::Replier;
+use party_turns::{Auxiliary, UserSeat, all_have_left, none_is_lost};
 use sv_core::Core;
 
 /// The parties of a run around its processor: the auxiliaries 10 and 20, and the users, ascending.
@@ -98,8 +97,12 @@ impl<X: Replier, Y: Replier, K: Shelf> Parties<X, Y, K> {
         ensures { TookAuxiliaryTurn X.forgets X.replies Y.forgets Y.replies K.told K.faults kind self.old self.new }
     {
         match kind {
-            AuxiliaryKind::Clock => self.ten.take_turn(&mut self.core),
-            AuxiliaryKind::TextFiles => self.twenty.take_turn(&mut self.core),
+            AuxiliaryKind::Clock => {
+                self.ten.take_turn(&mut self.core);
+            }
+            AuxiliaryKind::TextFiles => {
+                self.twenty.take_turn(&mut self.core);
+            }
         }
     }
 
@@ -127,9 +130,7 @@ impl<X: Replier, Y: Replier, K: Shelf> Parties<X, Y, K> {
     fn all_have_left(&self) -> bool
         ensures { result ≡ not (some_stay (seat_numbers self.now.seats.items) self.now.core.journal) }
     {
-        self.seats
-            .iter()
-            .all(|seat| self.core.has_left(seat.user()))
+        all_have_left(&self.core, &self.seats)
     }
 }
 

@@ -6,10 +6,11 @@ use Rattle.session_rules.specs.Run.{IsRun}
 use Rattle.sv_core.specs.Core.{ArePeople, PlainCore}
 use Rattle.aplsv_replay.specs.Endings.{ComesOf}
 use Rattle.aplsv_replay.specs.Replayed.{IsRunInTurns}
-use Rattle.aplsv_replay.specs.Sittings.{lent_to}
+use Rattle.party_turns.specs.Sittings.{lent_to}
 use Rattle.replay_rules.specs.Turns.{newcomer}
-use Rattle.aplsv_replay.proofs.Ends.{begins_together, plain_numbers, users_are_people, whole_more}
-use Rattle.aplsv_replay.proofs.Sits.{all_newly, lent_newly}
+use Rattle.aplsv_replay.proofs.Ends.{begins_together}
+use Rattle.party_turns.proofs.Parts.{plain_numbers, users_are_people, whole_more}
+use Rattle.party_turns.proofs.Sits.{all_newly, lent_newly}
 use Rattle.aplsv_replay.proofs.driver.replay_with.Goals as goal
 
 pub core_of-requires : goal.core_of-requires

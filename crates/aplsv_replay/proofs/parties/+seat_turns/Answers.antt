@@ -5,13 +5,14 @@ use Rattle.std.proofs.lemmas.List.Elements.{All-head, All-tail}
 use Rattle.apl_arrays.specs.Ascending.{AscendBy}
 use Rattle.sv_core.specs.Core.{ArePeople}
 use Rattle.sv_rules.specs.Legal.{is_user}
-use Rattle.aplsv_replay.specs.SeatTurns.{AreSeatTurns, IsSeatTurn, has_turn, seat_numbers}
-use Rattle.aplsv_replay.specs.SoFar.{IsSeated}
-use Rattle.aplsv_replay.specs.declared.seat.UserSeat.{UserSeat}
-use Rattle.aplsv_replay.proofs.Growth.{others_ascend}
+use Rattle.aplsv_replay.specs.SeatTurns.{AreSeatTurns, IsSeatTurn, has_turn}
+use Rattle.party_turns.specs.Seats.{seat_numbers}
+use Rattle.party_turns.specs.SoFar.{IsSeated}
+use Rattle.party_turns.specs.declared.seat.UserSeat.{UserSeat}
+use Rattle.party_turns.proofs.Growth.{others_ascend}
 use Rattle.aplsv_replay.proofs.SeatTurns.{is_empty, no_turns}
 use Rattle.aplsv_replay.proofs.TwoTurns.{first_and_others, others_seated}
-use Rattle.aplsv_replay.proofs.Sits.{first_seated, first_sits, none_sits}
+use Rattle.party_turns.proofs.Sits.{first_seated, first_sits, none_sits}
 use Rattle.aplsv_replay.proofs.parties.+seat_turns.Goals as goal
 
 pub seat_turn-requires-clause-user : goal.seat_turn-requires-clause-user

@@ -1,10 +1,10 @@
 use Rattle.std.proofs.Common.{◌≡◌, false, rules, subst, sym, tests, true, Bool}
 use Rattle.aplsv_replay.specs.SeatTurns.{IsSeatTurn}
-use Rattle.aplsv_replay.specs.Sittings.{Sitting}
-use Rattle.aplsv_replay.specs.SoFar.{IsSeated}
-use Rattle.aplsv_replay.specs.declared.seat.UserSeat.{UserSeat}
+use Rattle.party_turns.specs.Sittings.{Sitting}
+use Rattle.party_turns.specs.SoFar.{IsSeated}
+use Rattle.party_turns.specs.declared.seat.UserSeat.{UserSeat}
 use Rattle.aplsv_replay.proofs.SeatTurns.{due_turn, not_due}
-use Rattle.aplsv_replay.proofs.Sits.{sits_as}
+use Rattle.party_turns.proofs.Sits.{sits_as}
 use Rattle.aplsv_replay.proofs.parties.seat_turn.Goals as goal
 
 pub returns-then-not-due : goal.returns-then-not-due

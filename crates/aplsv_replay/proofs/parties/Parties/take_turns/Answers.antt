@@ -1,4 +1,4 @@
-use Rattle.std.proofs.Common.{◌≡◌, ℕ, List, [], get_or, refl, rules, subst, sym, take}
+use Rattle.std.proofs.Common.{◌≡◌, ℕ, List, [], get_or, refl, subst, sym, take}
 use Rattle.std.proofs.lemmas.List.{take_all, take_more}
 use Rattle.aplsv_replay.specs.Together.{TakesTurns}
 use Rattle.aplsv_replay.proofs.AllTogether.{of_some_still}

@@ -1,13 +1,13 @@
 use Rattle.std.proofs.Common.{◌≡◌, ◌||◌, ◌++◌, ◌∙◌, Bool, drop, length, rules, subst, sym, take}
-use Rattle.std.proofs.lemmas.Simd.{map-map}
 use Rattle.std.specs.List.{All}
 use Rattle.std.specs.Prelude.{IsTrue}
 use Rattle.apl_arrays.specs.Ascending.{AscendBy}
 use Rattle.sv_rules.specs.Legal.{is_user}
-use Rattle.aplsv_replay.specs.SeatTurns.{AreSeatTurns, AreSeated, has_turn}
+use Rattle.aplsv_replay.specs.SeatTurns.{AreSeatTurns, has_turn}
+use Rattle.party_turns.specs.SoFar.{AreSeated}
 use Rattle.aplsv_replay.proofs.AllTogether.{seats_are_of_users, seats_ascend}
 use Rattle.aplsv_replay.proofs.TwoTurns.{all_put_back}
-use Rattle.aplsv_replay.proofs.Sits.{as_many}
+use Rattle.party_turns.proofs.Sits.{as_many}
 use Rattle.aplsv_replay.proofs.parties.Parties.user_turns.Goals as goal
 
 pub seat_turns-requires-clause-users : goal.seat_turns-requires-clause-users

@@ -1,0 +1,16 @@
+pub mod Ascents
+pub mod Beginning
+pub mod Filling
+pub mod Growth
+pub mod Hearing
+pub mod Leaving
+pub mod Making
+pub mod Others
+pub mod Parts
+pub mod Phases
+pub mod Rows
+pub mod SeatSteps
+pub mod Serving
+pub mod Sits
+pub mod Staging
+pub mod Turning

@@ -1,0 +1,6 @@
+pub mod Entering
+pub mod Participants
+pub mod Seats
+pub mod Serving
+pub mod Sittings
+pub mod SoFar

@@ -1,0 +1,11 @@
+pub mod Departs
+pub mod Draft
+pub mod Line
+pub mod MayBePrinted
+pub mod Printed
+pub mod Reads
+pub mod Refused
+pub mod Section
+pub mod Step
+pub mod UserReading
+pub mod Worked

@@ -1,0 +1,5 @@
+pub mod Dealt
+pub mod Gathered
+mod Loads
+mod Changing
+mod Working

@@ -1,0 +1,8 @@
+use Rattle.std.proofs.Common.{◌≡◌, All, map}
+use Rattle.task_workers.proofs.rounds.work.Given as goal
+
+abbrev pub invariant-loop : goal.invariant-loop
+invariant-loop g l = record {
+  stand : All (g.T.Task.stands l.hall) l.tasks;
+  names : map g.T.Task.name l.tasks ≡ map g.T.Task.name l.fn.tasks;
+}
