@@ -73,15 +73,21 @@ fn over_relay<Y: Replier, C: Clock, K: Shelf>(
     let ten: Ten<C> = OneOf::Second(own);
     let RunOf {
         ended,
-        ten: _relay,
+        ten,
         twenty,
         shelves,
     } = over_ten::<Brand, C, Y, K>(alloc, words, bundle, ten, twenty, shelves);
-    Ran {
-        ended,
-        text: twenty,
-        clock,
-        shelves,
+    match ten {
+        OneOf::First(_) => unreachable!(),
+        OneOf::Second(relay) => {
+            drop(relay);
+            Ran {
+                ended,
+                text: twenty,
+                clock,
+                shelves,
+            }
+        }
     }
 }
 
@@ -167,15 +173,21 @@ fn over_own_clock<Y: Replier, C: Clock, K: Shelf>(
     let ten: Ten<C> = OneOf::Second(own);
     let RunOf {
         ended,
-        ten: _readings,
+        ten,
         twenty,
         shelves,
     } = over_ten::<Brand, C, Y, K>(alloc, words, bundle, ten, twenty, shelves);
-    Ran {
-        ended,
-        text: twenty,
-        clock,
-        shelves,
+    match ten {
+        OneOf::First(_) => unreachable!(),
+        OneOf::Second(readings) => {
+            drop(readings);
+            Ran {
+                ended,
+                text: twenty,
+                clock,
+                shelves,
+            }
+        }
     }
 }
 

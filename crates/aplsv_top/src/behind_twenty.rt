@@ -118,15 +118,21 @@ fn over_own_text<T: TextStore, C: Clock, K: Shelf>(
     let twenty: Twenty<T> = OneOf::Second(files);
     let Ran {
         ended,
-        text: _files,
+        text: twenty,
         clock,
         shelves,
     } = over_files::<Brand, T, C, K>(alloc, words, bundle, twenty, clock, shelves);
-    Ran {
-        ended,
-        text,
-        clock,
-        shelves,
+    match twenty {
+        OneOf::First(_) => unreachable!(),
+        OneOf::Second(files) => {
+            drop(files);
+            Ran {
+                ended,
+                text,
+                clock,
+                shelves,
+            }
+        }
     }
 }
 
