@@ -81,15 +81,21 @@ fn over_relay<D: Driver, Y: Replier + Send + Drop, C: Clock + Send + Drop, K: Sh
     let ten: Ten<C> = OneOf::Second(own);
     let RunOf {
         ended,
-        ten: _relay,
+        ten,
         twenty,
         shelves,
     } = over_ten::<D, Brand, C, Y, K>(alloc, driver, words, bundle, ten, twenty, shelves);
-    Ran {
-        ended,
-        text: twenty,
-        clock,
-        shelves,
+    match ten {
+        OneOf::First(_) => unreachable!(),
+        OneOf::Second(relay) => {
+            drop(relay);
+            Ran {
+                ended,
+                text: twenty,
+                clock,
+                shelves,
+            }
+        }
     }
 }
 
@@ -190,15 +196,21 @@ fn over_own_clock<
     let ten: Ten<C> = OneOf::Second(own);
     let RunOf {
         ended,
-        ten: _readings,
+        ten,
         twenty,
         shelves,
     } = over_ten::<D, Brand, C, Y, K>(alloc, driver, words, bundle, ten, twenty, shelves);
-    Ran {
-        ended,
-        text: twenty,
-        clock,
-        shelves,
+    match ten {
+        OneOf::First(_) => unreachable!(),
+        OneOf::Second(readings) => {
+            drop(readings);
+            Ran {
+                ended,
+                text: twenty,
+                clock,
+                shelves,
+            }
+        }
     }
 }
 

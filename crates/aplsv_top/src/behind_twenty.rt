@@ -137,15 +137,21 @@ fn over_own_text<
     let twenty: Twenty<T> = OneOf::Second(files);
     let Ran {
         ended,
-        text: _files,
+        text: twenty,
         clock,
         shelves,
     } = over_files::<D, Brand, T, C, K>(alloc, driver, words, bundle, twenty, clock, shelves);
-    Ran {
-        ended,
-        text,
-        clock,
-        shelves,
+    match twenty {
+        OneOf::First(_) => unreachable!(),
+        OneOf::Second(files) => {
+            drop(files);
+            Ran {
+                ended,
+                text,
+                clock,
+                shelves,
+            }
+        }
     }
 }
 
