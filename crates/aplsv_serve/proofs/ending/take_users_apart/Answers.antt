@@ -36,13 +36,13 @@ loop-task-preserved g c =
       users = λ list all.
           let at = user_among c.args.tasks.items list (length loop.yielded) c.in-Some.task all place.0 place.1 in
           let is = at.1 in
-          let same : c.in-User.user ≡ at.0.user = cc in
+          let same : c.in-User.field-0.user ≡ at.0.user = cc in
           taken_more (λ (u : UserTask g.row.K.Denot). u.user) list (length loop.yielded) (length (loop.yielded ++ c.in-Some.task ∷ [])) at.0 c.args.users.now.items loop.users.items users.new.self.items more at.2 (loop.invariant.users list all)
           (users.ensures.items ∙ ap (λ (u : UserSeat g.row.K.Denot). loop.users.items ++ u ∷ []) same);
       seats = λ list all.
           let at = user_among c.args.tasks.items list (length loop.yielded) c.in-Some.task all place.0 place.1 in
           let is = at.1 in
-          let same : c.in-User.seat ≡ at.0.seat = cc in
+          let same : c.in-User.field-0.seat ≡ at.0.seat = cc in
           taken_more (λ (u : UserTask g.row.K.Denot). u.seat) list (length loop.yielded) (length (loop.yielded ++ c.in-Some.task ∷ [])) at.0 c.args.seats.now.items loop.seats.items seats.new.self.items more at.2 (loop.invariant.seats list all)
           (seats.ensures.items ∙ ap (λ (s : Seat PlainEntry). loop.seats.items ++ s ∷ []) same);
       users_count = omega (arith, more, loop.invariant.users_count, users.ensures.len);

@@ -14,7 +14,7 @@ open-requires-clause-parties g c =
     (order.some, order.each, order.ascend)
 
 pub returns-clause-seats : goal.returns-clause-seats
-returns-clause-seats g c = ?
+returns-clause-seats g c = c.in_ok-make_room.ensures.fresh c.in_ok-stile.stile c.in_ok-stile.ensures.seats c.in_ok-stile.ensures.places c.in_ok-stile.ensures.known
 
 pub returns-clause-tasks : goal.returns-clause-tasks
 returns-clause-tasks g c =
