@@ -1,8 +1,7 @@
 -- A seat in its turn: what it finds, and what it has behind it.
-use Rattle.std.proofs.Common.{◌≡◌, ℕ, ◌+◌, ◌≤◌, ◌∷◌, ◌++◌, Bool, true, false, List, [], length, Option, Some, None, IsTrue, refl, sym, ap, ◌∙◌, subst, subst₂}
+use Rattle.std.proofs.Common.{◌≡◌, ℕ, ◌+◌, ◌≤◌, ◌∷◌, ◌++◌, Bool, true, false, List, [], length, Option, Some, None, IsTrue, refl, sym, ap, ◌∙◌, subst}
 use Rattle.std.specs.Prelude.{IfSome}
 use Rattle.apl_io.specs.Content.{Told}
-use Rattle.atomic_table.specs.Seated.{TableId}
 use Rattle.sv_core.specs.Core.{ArePeople, PlainCore}
 use Rattle.sv_core.specs.Histories.{members_of, party_of_entry}
 use Rattle.sv_events.specs.Answer.{PlainAnswer}
@@ -10,8 +9,9 @@ use Rattle.sv_events.specs.Entry.{PlainEntry}
 use Rattle.sv_rules.specs.Entries.{Entries, has_left}
 use Rattle.sv_rules.specs.Legal.{is_user}
 use Rattle.sv_turn.specs.Journals.{AddsOne, Begins, places_of}
-use Rattle.sv_turn.specs.Seating.{BelongsTo, IsSeatAt, known_of}
+use Rattle.sv_turn.specs.Seating.{BelongsTo, known_of}
 use Rattle.sv_turn.specs.declared.seat.Seat.{Seat}
+use Rattle.sv_turn.specs.declared.view.View.{View}
 use Rattle.session_rules.specs.Shelf.{Exchange}
 use Rattle.apl_session.specs.PlainSession.{HasCome, PlainSession}
 use Rattle.party_turns.specs.Entering.{Brings, IsOneIf, IsOneMore, IsReady}
@@ -49,10 +49,10 @@ module _ {K : Type 0} (told : K → Option (Told (ℕ × List ℕ))) (faults : K
 
 -- ---- what it has behind it
 
-module _ (stile : Stile) (party : ℕ) (old new : Seat PlainEntry) (table : TableId) (members : List ℕ) (at : IsSeatAtStile stile party old) (same : new.party ≡ old.party)
-    (table_is : table ≡ stile.table.shared.table_id) (members_are : members ≡ users_of_stile stile) (own : IsSeatAt table members new) where
+module _ (stile : Stile) (party : ℕ) (old new : Seat PlainEntry) (view : View PlainEntry) (at : IsSeatAtStile stile party old) (same : new.party ≡ old.party)
+    (here : new.badge.views ≡ view ∷ []) (table_is : new.badge.table_id ≡ stile.table.shared.table_id) (members_are : view.members ≡ users_of_stile stile) where
   belongs_still : BelongsTo members_of stile new
-  belongs_still = subst₂ (λ (t : TableId) (m : List ℕ). IsSeatAt t m new) table_is members_are own
+  belongs_still = record { view = view; here = here; table_is = table_is; members_are = members_are }
 
   -- where it made an entry
   pub seat_entered : (before after : PlainCore) → IsOneMore party before after → old.mine.items ≡ places_of party_of_entry old.party before.journal → new.mine.items ≡ old.mine.items ++ length after.journal ∷ [] → known_of new ≡ after.journal → IsSeatAtStile stile party new

@@ -6,6 +6,7 @@ pub mod Knowing
 pub mod Numbers
 pub mod Opening
 pub mod Receiving
+pub mod Returning
 pub mod Rows
 pub mod Service
 pub mod UserTurns

@@ -28,7 +28,7 @@ behind_auxiliaries [] people h = (omega arith, tt)
 behind_auxiliaries (u ∷ users) people h =
     let first = All-head (λ (n : ℕ). IsTrue (is_user_number n)) u users people in
     let least : first_user ≤ u = leb-true first_user u (and_parts (nat_le first_user u) (nat_le u last_user) first).0 in
-    (omega arith, omega arith, h)
+    (omega arith, (omega arith, h))
 
 -- parties that a turnstile may give seats
 pub record AreInOrder (parties : List ℕ) : Type 0 where

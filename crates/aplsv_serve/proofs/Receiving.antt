@@ -61,13 +61,13 @@ module _ {A B C : Type 0} (f : B → C) (g : A → B) where
       ap (map f) (reverse-append (g a ∷ []) (map g list)) ∙ map-append f (reverse (map g list)) (g a ∷ [])
       ∙ ap (λ (done : List C). done ++ f (g a) ∷ []) (map_reversed list) ∙ sym (reverse-append (f (g a) ∷ []) (map (λ (x : A). f (g x)) list))
 
-receipt_of : PlainEntry → PlainReceipt
+abbrev receipt_of : PlainEntry → PlainReceipt
 receipt_of e = record { act = e.act; answer = e.answer }
 
-full_for : Act → PlainReceipt
+abbrev full_for : Act → PlainReceipt
 full_for asked = record { act = asked; answer = full }
 
-enters : PlainReceipt → Bool
+abbrev enters : PlainReceipt → Bool
 enters receipt = not (tells_full receipt.answer)
 
 -- receipts of entries are entered
@@ -112,4 +112,4 @@ receipts_in_parts users dealings journal legal [] [] parts = tt
 receipts_in_parts users dealings journal legal [] (transcript ∷ transcripts) parts = absurd parts
 receipts_in_parts users dealings journal legal (user ∷ each) [] parts = absurd parts
 receipts_in_parts users dealings journal legal (user ∷ each) (transcript ∷ transcripts) parts =
-    (receipts_in_part users journal user (dealings user.number) transcript.lines legal parts.1.0, receipts_in_parts users dealings journal legal each transcripts parts.1.1)
+    (receipts_in_part users journal user (dealings user.number) transcript.lines legal parts.1, receipts_in_parts users dealings journal legal each transcripts parts.2)

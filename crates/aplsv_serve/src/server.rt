@@ -2,7 +2,8 @@ ghost use Rattle.std.specs.Prelude.{◌≡◌, ◌+◌, ◌≤◌, ◌++◌, ◌
 ghost use Rattle.apl_io.specs.Content.{KeepsPlaces};
 ghost use Rattle.apl_session.specs.Ended.{IfWhole};
 ghost use Rattle.apl_arrays.specs.Ascending.{AscendBy};
-ghost use Rattle.party_turns.specs.Seats.{none_lost};
+ghost use Rattle.party_turns.specs.Seats.{none_lost, seat_numbers};
+ghost use Rattle.session_rules.specs.Auxiliaries.{some_stay};
 ghost use Rattle.sv_core.specs.Histories.{members_of};
 ghost use Rattle.sv_turn.specs.Seating.{BelongsTo, seats_given};
 ghost use Rattle.aplsv_serve.specs.Ends.{EndsWhole};
@@ -179,6 +180,18 @@ fn nobody_is_lost<X: Replier, Y: Replier, K: Shelf>(
     !ten.is_lost() && !twenty.is_lost() && none_is_lost(users)
 }
 
+// Whether memory ran out for nobody, and all users have left.
+fn is_over<X: Replier, Y: Replier, K: Shelf>(
+    ten: &Auxiliary<X>,
+    twenty: &Auxiliary<Y>,
+    users: &[UserSeat<K>],
+    core: &Core,
+) -> bool
+    ensures { result ≡ ((not ten.now.is_lost && not twenty.now.is_lost && none_lost users.now) && not (some_stay (seat_numbers users.now) core.now.journal)) }
+{
+    nobody_is_lost(ten, twenty, users) && all_have_left(core, users)
+}
+
 // Ends a run whose tasks are back: the turnstile closes, and the run is whole where memory ran out for nobody and all users have
 // left.
 fn close<X: Replier, Y: Replier, K: Shelf>(
@@ -203,7 +216,7 @@ fn close<X: Replier, Y: Replier, K: Shelf>(
         seats,
     } = apart;
     let (core, _seats) = stile.close(Seats::of_vec(seats));
-    let is_whole = nobody_is_lost(&ten, &twenty, &users) && all_have_left(&core, &users);
+    let is_whole = is_over(&ten, &twenty, &users, &core);
     let mut shelves = shelves;
     let transcripts = take_apart(alloc, users, &mut shelves);
     RunOf {
