@@ -1,7 +1,7 @@
 -- A run over one of two is a run over the one that it is.
 use Rattle.std.proofs.Common.{◌≡◌, ℕ, Bool, true, false, List, [], None, Option, Some}
 use Rattle.apl_arrays.specs.Array.{PlainArray}
-use Rattle.apl_arrays.specs.Parties.{clock_party, text_party}
+use Rattle.aux_parties.specs.Auxiliaries.{clock_party, text_party}
 use Rattle.apl_io.specs.Clock.{Ticks}
 use Rattle.apl_io.specs.Content.{Told}
 use Rattle.aux_choice.specs.OneOf.{Forgets, Replies}

@@ -1,6 +1,6 @@
 -- What a relay carried in a run.
 use Rattle.std.specs.Prelude.{◌≡◌, ◌≤◌, ℕ, true, List, Option, length, take}
-use Rattle.apl_arrays.specs.Parties.{clock_party}
+use Rattle.aux_parties.specs.Auxiliaries.{clock_party}
 use Rattle.apl_io.specs.Clock.{Ticks}
 use Rattle.apl_io.specs.Content.{Told}
 use Rattle.aux_relay.specs.History.{AreRelayed, Reply, texts_given, texts_taken}

@@ -1,4 +1,4 @@
-use Rattle.apl_arrays.specs.Parties.{clock_party}
+use Rattle.aux_parties.specs.Auxiliaries.{clock_party}
 use Rattle.session_rules.specs.Auxiliaries.{events_of}
 use Rattle.aplsv_top.specs.Relayed.{relayed_in}
 use Rattle.aplsv_top.proofs.Over.{named_relayed}
