@@ -134,4 +134,4 @@ module _ {X Y K G : Type 0} (forgets_ten : X → ℕ → X → Type 0) (replies_
       subst (λ (list : List (PartyTask X Y K)). All (PartyStands forgets_ten replies_ten forgets_twenty replies_twenty told faults hall) list) (sym row.is)
       (All-from_recursion (PartyStands forgets_ten replies_ten forgets_twenty replies_twenty told faults hall) (variant.Clock row.clock ∷ variant.TextFiles row.files ∷ map (λ (u : UserTask K). variant.User u) row.users)
       (in_hall (variant.Clock row.clock ∷ variant.TextFiles row.files ∷ map (λ (u : UserTask K). variant.User u) row.users)
-      (new_service forgets_ten replies_ten (party_of kind.Clock) hall.stile ten row.clock new.clock at.0 first, new_service forgets_twenty replies_twenty (party_of kind.TextFiles) hall.stile twenty row.files new.files at.1.0 second, of_users row.users stand)))
+      (new_service forgets_ten replies_ten (party_of kind.Clock) hall.stile ten row.clock new.clock at.0 first, (new_service forgets_twenty replies_twenty (party_of kind.TextFiles) hall.stile twenty row.files new.files at.1.0 second, of_users row.users stand))))
