@@ -85,6 +85,7 @@ module _ {K : Type 0} (told : K → Option (Told (ℕ × List ℕ))) (faults : K
   -- it will have come far where memory did not run out for it
   pub will_come_then : (about : Option Intent) (answer : Option PlainAnswer) (journal : Entries) → journal ≡ after.journal → (about ≡ None → then.is_lost ≡ true) → then.is_lost ≡ false → IfSome about (λ intent. IsAboutTo told faults known lent user intent)
       → IfSome about (λ intent. (exchanges : List Exchange) → IsReady before.journal exchanges intent user.session → Brings before exchanges user.session intent after answer) → WillHaveComeFar told faults journal lent then answer
+  unfolding about_again
   will_come_then None answer journal is nothing here h brings = absurd (let no : true ≡ false = sym (nothing refl) ∙ here in cc)
   will_come_then (Some intent) answer journal is nothing here h brings =
       let at = about_since told faults known before.journal lent user k intent h in
