@@ -10,19 +10,21 @@ ghost use Rattle.aplsv_words.specs.Meaning.{Asked, Means};
 ghost use Rattle.aplsv_top.specs.Causes.{HasCause};
 ghost use Rattle.aplsv_top.specs.Headline.{IsOutputAs};
 ghost use Rattle.aplsv_top.specs.Loads.{HasLoadCause, IsLoadAs};
-ghost use Rattle.aplsv_top.specs.Words.{AskReplay, AskRun, IsConclusion};
+ghost use Rattle.aplsv_top.specs.Words.{HaveMeaning, IsConclusion};
 ghost use Rattle.aplsv_top.specs.declared.status.Status.TheVariants as status;
 
 use apl_arrays::{USER_LIMIT, WantOfMemory};
 use apl_io::{Devices, Sink, Source};
-use aplsv_devices::{DirShelf, DirText, StdSink, StdSource, SystemClock};
-use aplsv_top::{Finish, Status, aplsv_on_one_thread};
+use aplsv_devices::{DirShelf, DirText, OpenGate, StdSink, StdSource, SystemClock};
+use aplsv_top::{Finish, Status, aplsv};
 use bundle_text::BundleRule;
 use refusal_lines::{malformed_lines, usage_lines};
 use std::alloc::{AllocError, Global};
 use std::env::{self, Args};
 use std::io::{self, ErrorKind};
 use std::process::{self, ExitCode};
+use std::sync::Wait;
+use std::thread::Threads;
 
 type Text = DirText<HostRuntime>;
 
@@ -72,8 +74,9 @@ fn devices(rt: HostRuntime) -> Result<Devices<Text, Clock, Shelf>, WantOfMemory>
 }
 
 // What the program does for its words, the program's name in front, over a source and a sink: what the top call does over the
-// devices of the machine, which tell nothing of what they hold.
-fn run<S: Source, W: Sink>(
+// devices of the machine, which tell nothing of what they hold, and past a gate that stands open.
+fn run<R: Threads + Wait + Sync, S: Source, W: Sink>(
+    threads: &R,
     alloc: Global,
     words: &[String],
     input: &mut S,
@@ -90,12 +93,12 @@ fn run<S: Source, W: Sink>(
         asked devices.clock result.clock devices.text result.text devices.shelves.items result.shelves.items) result.status
         (record { bytes = S.left input.old; faults = S.faults input.old }) (record { bytes = S.left input.new; faults = S.faults input.new })
         (record { bytes = W.held output.old; faults = W.faults output.old }) (record { bytes = W.held output.new; faults = W.faults output.new }) }
-    ensures usage { result.status ≡ status.Usage → ¬ AskRun (map string_bytes (drop 1 words.now)) }
-    ensures unasked { ¬ AskRun (map string_bytes (drop 1 words.now)) → (result.status ≡ status.Usage) ⊎ (result.status ≡ status.WantOfMemory) }
-    ensures unread { ¬ AskReplay (map string_bytes (drop 1 words.now)) → input.new ≡ input.old }
+    ensures usage { result.status ≡ status.Usage → ¬ HaveMeaning (map string_bytes (drop 1 words.now)) }
+    ensures meaningless { ¬ HaveMeaning (map string_bytes (drop 1 words.now)) → (result.status ≡ status.Usage) ⊎ (result.status ≡ status.WantOfMemory) }
+    ensures unread { ¬ HaveMeaning (map string_bytes (drop 1 words.now)) → input.new ≡ input.old }
     ensures refused { result.status ≡ status.Usage → input.new ≡ input.old }
     ensures unwritten { result.status ≢ status.Done → result.status ≢ status.WriteFault → output.new ≡ output.old }
-    ensures complete { AskRun (map string_bytes (drop 1 words.now)) → AreAtMost (S.left input.old) most_input_bytes
+    ensures complete { HaveMeaning (map string_bytes (drop 1 words.now)) → AreAtMost (S.left input.old) most_input_bytes
         → ¬ (Rose (S.faults input.old) (S.faults input.new)) → ¬ (Rose (W.faults output.old) (W.faults output.new))
         → IsConclusion result.status }
 {
@@ -104,7 +107,8 @@ fn run<S: Source, W: Sink>(
         clock,
         shelves,
     } = devices;
-    aplsv_on_one_thread(
+    aplsv(
+        threads,
         alloc,
         behind_name(words),
         input,
@@ -112,12 +116,14 @@ fn run<S: Source, W: Sink>(
         text,
         clock,
         shelves,
+        &OpenGate,
     )
 }
 
 // How it ends for the words of the process.
-fn ending<S: Source, W: Sink>(
+fn ending<R: Threads + Wait + Sync, S: Source, W: Sink>(
     rt: HostRuntime,
+    threads: &R,
     given: Args,
     input: &mut S,
     output: &mut W,
@@ -128,19 +134,24 @@ fn ending<S: Source, W: Sink>(
 {
     let words = all_words(rt.alloc(), given)?;
     let devices = devices(rt)?;
-    let finish = run(rt.alloc(), &words, input, output, devices);
+    let finish = run(threads, rt.alloc(), &words, input, output, devices);
     let status = finish.status;
     drop(finish);
     Ok(status)
 }
 
 // The same, where words that are no text have no meaning.
-fn status_of<S: Source, W: Sink>(rt: HostRuntime, input: &mut S, output: &mut W) -> Status
+fn status_of<R: Threads + Wait + Sync, S: Source, W: Sink>(
+    rt: HostRuntime,
+    threads: &R,
+    input: &mut S,
+    output: &mut W,
+) -> Status
     ensures unread { result ≡ status.Usage → input.new ≡ input.old }
     ensures unwritten { result ≢ status.Done → result ≢ status.WriteFault → output.new ≡ output.old }
 {
     match env::args(&rt) {
-        Ok(given) => match ending(rt, given, input, output) {
+        Ok(given) => match ending(rt, threads, given, input, output) {
             Ok(status) => status,
             Err(WantOfMemory) => Status::WantOfMemory,
         },
@@ -178,7 +189,7 @@ fn say(rt: &HostRuntime, status: Status, read: Option<&[u8]>) -> io::Result<()> 
 fn main(rt: HostRuntime) -> ExitCode {
     let mut input = StdSource::new(rt.alloc(), rt.stdin());
     let mut output = StdSink::new(rt.stdout());
-    let status = status_of(rt, &mut input, &mut output);
+    let status = status_of(rt, &rt, &mut input, &mut output);
     if status != Status::Done {
         // Where standard error fails too, the exit status still tells.
         let _ = say(&rt, status, input.kept());

@@ -1,6 +1,8 @@
 use crate::run::{ProgramEnd, run};
 use anyhow::Result;
 use std::alloc::{AllocError, Global};
+use std::sync::Wait;
+use std::thread::Threads;
 
 /// How much a call of a device gives or takes at most, and the number of the call that fails; 0 where none does.
 #[derive(Clone, Copy, Debug)]
@@ -75,11 +77,12 @@ fn difference(
 }
 
 /// What differs between how a case ends and how it is to end; nothing where nothing does.
-pub fn difference_of(
+pub fn difference_of<R: Threads + Wait + Sync>(
+    threads: &R,
     alloc: Global,
     case: &Case<'_>,
     wanted: &Wanted<'_>,
 ) -> Result<Option<String>> {
-    let ended = run(alloc, case)?;
+    let ended = run(threads, alloc, case)?;
     Ok(difference(alloc, &ended, wanted)?)
 }

@@ -5,6 +5,8 @@ use crate::run::run;
 use anyhow::{Context, Result, bail};
 use case_tables::Trial;
 use std::alloc::Global;
+use std::sync::Wait;
+use std::thread::Threads;
 
 // A device by its words, the most bytes of a call and the number of the call that fails.
 fn device_of(words: &str) -> Option<Device> {
@@ -25,8 +27,9 @@ fn devices_of(words: &str) -> Option<(Device, Device, usize)> {
 /// Stored cases over devices that give and take pieces, fail or are full: the case, and the devices; the ending, and how many
 /// bytes of the output are written.
 #[derive(Clone, Copy)]
-pub struct Devices<'a> {
+pub struct Devices<'a, R> {
     pub rt: &'a HostRuntime,
+    pub threads: &'a R,
 }
 
 fn case_over<'a>(stored: &'a StoredCase, devices: &str) -> Option<Case<'a>> {
@@ -49,7 +52,7 @@ fn written_text(alloc: Global, output: &[u8], written: &[u8]) -> Result<String> 
     })
 }
 
-impl Trial for Devices<'_> {
+impl<R: Threads + Wait + Sync> Trial for Devices<'_, R> {
     fn given(&self) -> usize {
         2
     }
@@ -59,7 +62,11 @@ impl Trial for Devices<'_> {
             bail!("a case and devices are wanted");
         };
         let stored = StoredCase::read(self.rt, *name)?;
-        let ended = run(alloc, &case_over(&stored, *devices).context("no devices")?)?;
+        let ended = run(
+            self.threads,
+            alloc,
+            &case_over(&stored, *devices).context("no devices")?,
+        )?;
         let ending = ending_of(alloc, &ended)?;
         let written = written_text(alloc, stored.wanted()?.written, &ended.written)?;
         Ok(format!(in alloc; "{ending} ¦ {written}")?)

@@ -2,6 +2,8 @@ use crate::case::difference_of;
 use crate::files::StoredCase;
 use anyhow::Result;
 use case_tables::Tally;
+use std::sync::Wait;
+use std::thread::Threads;
 use std::{fs, io};
 
 fn sorted_names(rt: &HostRuntime, folder: &str) -> io::Result<Vec<String>> {
@@ -14,9 +16,13 @@ fn sorted_names(rt: &HostRuntime, folder: &str) -> io::Result<Vec<String>> {
 }
 
 // One line is printed.
-fn stored_differs(rt: &HostRuntime, name: &str) -> Result<bool> {
+fn stored_differs<R: Threads + Wait + Sync>(
+    rt: &HostRuntime,
+    threads: &R,
+    name: &str,
+) -> Result<bool> {
     let stored = StoredCase::read(rt, name)?;
-    match difference_of(rt.alloc(), &stored.case(), &stored.wanted()?)? {
+    match difference_of(threads, rt.alloc(), &stored.case(), &stored.wanted()?)? {
         None => {
             println!(rt; "{name}: as wanted")?;
             Ok(false)
@@ -28,23 +34,23 @@ fn stored_differs(rt: &HostRuntime, name: &str) -> Result<bool> {
     }
 }
 
-fn each_in(rt: &HostRuntime, folder: &str) -> Result<Tally> {
+fn each_in<R: Threads + Wait + Sync>(rt: &HostRuntime, threads: &R, folder: &str) -> Result<Tally> {
     let mut tally = Tally::new();
     for file in sorted_names(rt, folder)?.iter() {
         if let Some(name) = file.strip_suffix(".bundle") {
             let path = format!(in rt.alloc(); "{folder}/{name}")?;
-            tally.count(stored_differs(rt, path.as_str())?);
+            tally.count(stored_differs(rt, threads, path.as_str())?);
         }
     }
     Ok(tally)
 }
 
 /// Runs the bundle of each folder, by name. One line is printed for each.
-pub fn each_bundle(rt: &HostRuntime) -> Result<Tally> {
+pub fn each_bundle<R: Threads + Wait + Sync>(rt: &HostRuntime, threads: &R) -> Result<Tally> {
     let mut tally = Tally::new();
     for name in sorted_names(rt, ".")?.iter() {
         if fs::metadata(rt, name.as_str())?.is_dir() {
-            tally.add(each_in(rt, name.as_str())?);
+            tally.add(each_in(rt, threads, name.as_str())?);
         }
     }
     Ok(tally)

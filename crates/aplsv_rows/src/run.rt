@@ -2,11 +2,14 @@ ghost use Rattle.std.specs.Prelude.{◌≡◌, IfOk, vec_len};
 ghost use Rattle.apl_arrays.specs.Limits.{most_users};
 
 use crate::case::{Case, Device};
+use crate::gates::Meeting;
 use anyhow::Result;
 use apl_arrays::{Bytes, FileList, List, USER_LIMIT, WantOfMemory};
 use apl_io::{CallNumbers, MemoryClock, MemoryShelf, MemorySink, MemorySource, MemoryText};
-use aplsv_top::{Status, aplsv_on_one_thread};
+use aplsv_top::{Status, aplsv};
 use std::alloc::Global;
+use std::sync::Wait;
+use std::thread::Threads;
 
 /// How a run ended: its exit status, its text on standard error, and the bytes that it wrote.
 #[derive(Debug, Drop)]
@@ -44,17 +47,21 @@ fn shelves(alloc: Global) -> Result<Vec<MemoryShelf>, WantOfMemory>
     Ok(shelves)
 }
 
-// What the program ends with over these words, source and sink, and over no file, no reading and empty shelves.
-fn finished(
+// What the program ends with over these words, source and sink, past a gate, and over no file, no reading and empty shelves.
+fn finished<R: Threads + Wait + Sync>(
+    threads: &R,
     alloc: Global,
     words: &[String],
     source: &mut MemorySource,
     sink: &mut MemorySink,
+    gate: &Meeting,
 ) -> Result<Status, WantOfMemory> {
     let shelves = shelves(alloc)?;
     let text = MemoryText::new(alloc, FileList::new(alloc), CallNumbers::new(alloc));
     let clock = MemoryClock::new(List::new(alloc), CallNumbers::new(alloc));
-    let finish = aplsv_on_one_thread(alloc, words, source, sink, text, clock, shelves);
+    let finish = aplsv(
+        threads, alloc, words, source, sink, text, clock, shelves, gate,
+    );
     let status = finish.status;
     drop(finish);
     Ok(status)
@@ -75,15 +82,17 @@ pub fn ended_as(alloc: Global, status: Status, written: &[u8]) -> Result<Program
 }
 
 // A run into a sink of its own.
-fn run_into_sink(
+fn run_into_sink<R: Threads + Wait + Sync>(
+    threads: &R,
     alloc: Global,
     case: &Case<'_>,
     words: &[String],
     source: &mut MemorySource,
+    gate: &Meeting,
 ) -> Result<ProgramEnd, WantOfMemory> {
     let Device { piece, fails } = case.sink;
     let mut sink = MemorySink::new(alloc, case.room, piece.max(1), numbers(alloc, fails)?)?;
-    let ended = match finished(alloc, words, source, &mut sink) {
+    let ended = match finished(threads, alloc, words, source, &mut sink, gate) {
         Ok(status) => ended_as(alloc, status, sink.bytes()),
         Err(WantOfMemory) => Err(WantOfMemory),
     };
@@ -91,20 +100,39 @@ fn run_into_sink(
     ended
 }
 
-fn run_once(alloc: Global, case: &Case<'_>) -> Result<ProgramEnd, WantOfMemory> {
+fn run_once<R: Threads + Wait + Sync>(
+    threads: &R,
+    alloc: Global,
+    case: &Case<'_>,
+    gate: &Meeting,
+) -> Result<ProgramEnd, WantOfMemory> {
     let words = words_of(alloc, case.words)?;
     let input = Bytes::from(Vec::from_slice(alloc, case.input)?);
     let Device { piece, fails } = case.source;
     let mut source = MemorySource::new(input, piece.max(1), numbers(alloc, fails)?);
-    let ended = run_into_sink(alloc, case, &words, &mut source);
+    let ended = run_into_sink(threads, alloc, case, &words, &mut source, gate);
     drop(source);
     ended
 }
 
 /// Runs a case, once more where memory was refused.
-pub fn run(alloc: Global, case: &Case<'_>) -> Result<ProgramEnd> {
-    match run_once(alloc, case) {
-        Err(WantOfMemory) => Ok(run_once(alloc, case)?),
+pub fn run<R: Threads + Wait + Sync>(
+    threads: &R,
+    alloc: Global,
+    case: &Case<'_>,
+) -> Result<ProgramEnd> {
+    run_past(threads, alloc, case, &Meeting::of(0))
+}
+
+/// Runs a case past a gate, once more where memory was refused.
+pub fn run_past<R: Threads + Wait + Sync>(
+    threads: &R,
+    alloc: Global,
+    case: &Case<'_>,
+    gate: &Meeting,
+) -> Result<ProgramEnd> {
+    match run_once(threads, alloc, case, gate) {
+        Err(WantOfMemory) => Ok(run_once(threads, alloc, case, gate)?),
         Ok(ended) => Ok(ended),
     }
 }

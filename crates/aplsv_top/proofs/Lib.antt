@@ -1,5 +1,7 @@
+pub mod Behind
 pub mod Causes
 pub mod Clocks
+pub mod ComponentAnswers
 pub mod Copies
 pub mod Determined
 pub mod Ended
@@ -9,14 +11,17 @@ pub mod Level
 pub mod LoadCauses
 pub mod LoadRuns
 pub mod Older
+pub mod OneOfRuns
 pub mod OneOutput
 pub mod OneReplay
 pub mod OneReply
 pub mod OneRun
 pub mod Over
+pub mod OwnOutputs
 pub mod Placed
 pub mod Placing
 pub mod Printing
+pub mod RelayAnswers
 pub mod ReplyWork
 pub mod Sessions
 pub mod Shelves

@@ -1,5 +1,5 @@
 -- Why a load ends as it does.
-use Rattle.std.proofs.Common.{◌≡◌, ◌≢◌, ◌⊎◌, ◌≤◌, ◌<◌, ◌^◌, ℕ, List, Option, Some, None, ap, is_some, reverse, refl, subst, sym, inl, inr}
+use Rattle.std.proofs.Common.{◌≡◌, ◌≢◌, ◌⊎◌, ◌≤◌, ◌<◌, ◌^◌, ℕ, true, List, Option, Some, None, ap, is_some, reverse, refl, subst, sym, inl, inr}
 use Rattle.std.proofs.lemmas.List.{reverse-reverse}
 use Rattle.std.proofs.lemmas.Option.{none-some, same_Some}
 use Rattle.std.specs.Prelude.{IsSome}
@@ -22,17 +22,21 @@ use Rattle.aplsv_top.specs.declared.status.Status.TheVariants as status
 use Rattle.aplsv_top.proofs.LoadRuns.{load_has_last}
 use Rattle.aplsv_top.proofs.Over.{RunAs, if_whole, named_parts, run_of_same}
 
--- ---- what a load's count is
+-- ---- what counts are
 
-counted : (n : ℕ) (written : Option Text) (load : Option ℕ) → CountsAs written load → load ≡ Some n → (1 ≤ n) × (n ≤ 100000)
-counted n None None counts is = absurd (none-some n is)
-counted n None (Some m) counts is = absurd counts
-counted n (Some text) None counts is = absurd counts
-counted n (Some text) (Some m) counts is = let same : m ≡ n = same_Some m n is in (subst (λ (k : ℕ). 1 ≤ k) same counts.some, subst (λ (k : ℕ). k ≤ 100000) same counts.few)
+counted : (most n : ℕ) (written : Option Text) (count : Option ℕ) → CountsAs most written count → count ≡ Some n → (1 ≤ n) × (n ≤ most)
+counted most n None None counts is = absurd (none-some n is)
+counted most n None (Some m) counts is = absurd counts
+counted most n (Some text) None counts is = absurd counts
+counted most n (Some text) (Some m) counts is = let same : m ≡ n = same_Some m n is in (subst (λ (k : ℕ). 1 ≤ k) same counts.some, subst (λ (k : ℕ). k ≤ most) same counts.few)
 
 -- words that ask for a load ask for as many numbers as there may be
 pub load_counts : (words : List Text) (asked : Asked) (n : ℕ) → Means words asked → asked.load ≡ Some n → (1 ≤ n) × (n ≤ 100000)
-load_counts words asked n means is = counted n means.said.load asked.load means.asks.load is
+load_counts words asked n means is = counted 100000 n means.said.load asked.load means.asks.load is
+
+-- and as many workers
+pub workers_count : (words : List Text) (asked : Asked) (n : ℕ) → Means words asked → asked.workers ≡ Some n → (1 ≤ n) × (n ≤ 34)
+workers_count words asked n means is = counted 34 n means.said.workers asked.workers means.asks.workers is
 
 -- ---- how it ends
 
@@ -84,20 +88,20 @@ module _ {C T K : Type 0} (ticks : C → Option Ticks) (clock_faults : C → ℕ
     (n : ℕ) (asked : Asked) (bundle : PlainBundle) (made : BundleText (load_text n) bundle) where
   -- a run that is whole has a line of user 1002
   pub load_shows : (clock clock_then : C) (files files_then : T) (shelves shelves_then : List K) (ended : Ended) → n < 2 ^ 64
-      → IfWhole ended (λ transcripts journal. RunAs ticks clock_faults text_told text_faults told faults asked bundle journal transcripts clock clock_then files files_then shelves shelves_then)
+      → IfWhole ended (λ transcripts journal. RunAs true ticks clock_faults text_told text_faults told faults asked bundle journal transcripts clock clock_then files files_then shelves shelves_then)
       → IfWhole ended (λ transcripts journal. IsSome (last_line transcripts))
   load_shows clock clock_then files files_then shelves shelves_then ended fits run =
-      if_whole ended (λ transcripts journal. RunAs ticks clock_faults text_told text_faults told faults asked bundle journal transcripts clock clock_then files files_then shelves shelves_then)
+      if_whole ended (λ transcripts journal. RunAs true ticks clock_faults text_told text_faults told faults asked bundle journal transcripts clock clock_then files files_then shelves shelves_then)
       (λ transcripts journal. IsSome (last_line transcripts))
       (λ transcripts journal over.
-      let parts = named_parts ticks clock_faults text_told text_faults told faults asked.text asked.clock asked.library bundle journal transcripts clock clock_then files files_then shelves shelves_then over in
+      let parts = named_parts true ticks clock_faults text_told text_faults told faults asked.text asked.components asked.relay asked.clock asked.library bundle journal transcripts clock clock_then files files_then shelves shelves_then over in
       let last = load_has_last parts.dealings journal n bundle transcripts fits made parts.users in
       ap is_some last.1)
       run
 
   -- and what is written of it sums it up
   pub load_as : (text : List ℕ) (clock clock_then clock_now : C) (files files_then files_now : T) (shelves shelves_then shelves_now : List K) (ended : Ended)
-      → IfWhole ended (λ transcripts journal. RunAs ticks clock_faults text_told text_faults told faults asked bundle journal transcripts clock clock_then files files_then shelves shelves_then)
+      → IfWhole ended (λ transcripts journal. RunAs true ticks clock_faults text_told text_faults told faults asked bundle journal transcripts clock clock_then files files_then shelves shelves_then)
       → IsSummaryIn n ended text → clock_then ≡ clock_now → files_then ≡ files_now → shelves_then ≡ shelves_now
       → IsLoadAs ticks clock_faults text_told text_faults told faults n asked clock clock_now files files_now shelves shelves_now text
   load_as text clock clock_then clock_now files files_then files_now shelves shelves_then shelves_now (Whole transcripts journal) run written same_clock same_files same_shelves =
@@ -108,7 +112,7 @@ module _ {C T K : Type 0} (ticks : C → Option Ticks) (clock_faults : C → ℕ
         transcripts = transcripts.items;
         journal = reverse journal.items;
         run =
-            run_of_same ticks clock_faults text_told text_faults told faults asked bundle (reverse journal.items) transcripts.items clock clock_then clock_now files files_then files_now shelves shelves_then shelves_now
+            run_of_same true ticks clock_faults text_told text_faults told faults asked bundle (reverse journal.items) transcripts.items clock clock_then clock_now files files_then files_now shelves shelves_then shelves_now
             same_clock same_files same_shelves run;
         summary = subst (λ (entries : List PlainEntry). IsSummary n transcripts.items entries text) twice written;
       }

@@ -39,14 +39,14 @@ found_told name (file ∷ files) = by (is_at (name_order name) file.name) (found
   by true rest = λ e. cc e
   by false rest = rest
 
-files_told : (bundle : PlainBundle) → TellsSound name_order (told_by (text_store_of bundle))
+pub files_told : (bundle : PlainBundle) → TellsSound name_order (told_by (text_store_of bundle))
 files_told bundle = record { now = (text_store_of bundle).told; tells = refl; sound = record { fails = refl; told = λ name. found_told name bundle.files } }
 
 -- an empty shelf tells all
-abbrev empty_shelf : Keeper (ℕ × List ℕ)
+abbrev pub empty_shelf : Keeper (ℕ × List ℕ)
 empty_shelf = new_keeper [] []
 
-shelf_told : TellsSound by_user_and_name (told_by empty_shelf)
+pub shelf_told : TellsSound by_user_and_name (told_by empty_shelf)
 shelf_told = record { now = empty_shelf.told; tells = refl; sound = record { fails = refl; told = λ key e. cc e } }
 
 module _ (one_text : OneText) (one_transcript : PartsMakeOneTranscript) (bundle : PlainBundle) (rules : IsBundle bundle) where

@@ -10,7 +10,7 @@ use Rattle.apl_io.specs.Clock.{Ticks}
 use Rattle.apl_io.specs.Content.{Told, entry_of}
 use Rattle.auxiliaries.specs.Clock.{RepliesByReading}
 use Rattle.auxiliaries.specs.Protocol.{idle}
-use Rattle.auxiliaries.specs.Served.{Served, forgotten}
+use Rattle.auxiliaries.specs.Served.{Replies, forgotten}
 use Rattle.bundle_text.specs.Bundle.{IsBundle, PlainBundle}
 use Rattle.bundle_text.specs.Rules.{IsUser}
 use Rattle.bundle_text.specs.User.{PlainUser}
@@ -21,10 +21,10 @@ use Rattle.aux_parties.specs.declared.auxiliary.AuxiliaryKind.TheVariants.{Clock
 use Rattle.session_rules.specs.Run.{AreUserParts, Dealings, ServeUsers}
 use Rattle.session_rules.specs.RunLaws.{PartsMakeOneTranscript}
 use Rattle.replay_rules.specs.Turns.{newcomer, numbers_of, ordered, rounds}
-use Rattle.aplsv_replay.specs.Replayed.{IsDeviceRun}
+use Rattle.aplsv_replay.specs.Replayed.{IsRunInTurns}
 use Rattle.aplsv_top.specs.OutputLaws.{AllTellThroughout, LeavesNoneUntold, OutputsAreDetermined, ReplaysAreDetermined}
 use Rattle.aplsv_top.proofs.Clocks.{TickAlike, clocks_are_determined}
-use Rattle.aplsv_top.proofs.Determined.{Answers, AnswersBehind}
+use Rattle.aplsv_top.proofs.Determined.{Answers, AnswersBehind, IsDetermined}
 use Rattle.aplsv_top.proofs.Ended.{DealingsFit, fit_at_end, same_dealings, same_parts}
 use Rattle.aplsv_top.proofs.Files.{BeginsWith, KnownReplies, OneText, ServeAlike, files_are_determined, holds_at_start, known_run}
 use Rattle.aplsv_top.proofs.Heard.{AreApartFrom, AreHeard, AreUsersApart, ascending_apart}
@@ -77,55 +77,65 @@ module _ {K : Type 0} (told : K → Option (Told (ℕ × List ℕ))) (faults : K
     dealings_fit dealings users places shelves shelves_then served.1 all.1 cc,
   )
 
-module _ (one_text : OneText) {C T K : Type 0} (ticks : C → Option Ticks) (clock_faults : C → ℕ) (text_told : T → Option (Told (List ℕ))) (text_faults : T → ℕ) (told : K → Option (Told (ℕ × List ℕ))) (faults : K → ℕ)
-    (bundle : PlainBundle) (rules : IsBundle bundle) (readings : Ticks) (content : Told (List ℕ)) (places : List K) where
-  -- a journal that these devices replied to
-  abbrev Replied : Dealings → Entries → Type 0
-  Replied dealings journal = IsRepliedJournal (FitShelf told faults) (fit_earlier told faults) (fit_one told faults)
-      (λ old party new. new ≡ old) (λ old party value answer new. RepliesByReading ticks clock_faults old value answer new) (λ c. ticks c ≡ Some readings) (TickAlike ticks clock_faults) (clocks_are_determined ticks clock_faults readings)
-      (λ old party new. new ≡ forgotten old) (KnownReplies one_text text_told text_faults) (BeginsWith one_text text_told text_faults content) (ServeAlike one_text text_told text_faults) (files_are_determined one_text text_told text_faults content)
-      places bundle dealings journal
+-- ---- runs in turns
+
+module _ {S U K : Type 0} (forgets_ten : S → ℕ → S → Type 0) (replies_ten : S → ℕ → PlainArray → PlainArray → S → Type 0) (BeginsTen : S → Type 0) (AlikeTen : S → S → Type 0) (one_ten : IsDetermined forgets_ten replies_ten BeginsTen AlikeTen)
+    (forgets_twenty : U → ℕ → U → Type 0) (replies_twenty : U → ℕ → PlainArray → PlainArray → U → Type 0) (BeginsTwenty : U → Type 0) (AlikeTwenty : U → U → Type 0) (one_twenty : IsDetermined forgets_twenty replies_twenty BeginsTwenty AlikeTwenty)
+    (told : K → Option (Told (ℕ × List ℕ))) (faults : K → ℕ) (bundle : PlainBundle) (rules : IsBundle bundle) where
+  -- a journal that was replied to so
+  abbrev Replied : List K → Dealings → Entries → Type 0
+  Replied places dealings journal = IsRepliedJournal (FitShelf told faults) (fit_earlier told faults) (fit_one told faults)
+      forgets_ten replies_ten BeginsTen AlikeTen one_ten forgets_twenty replies_twenty BeginsTwenty AlikeTwenty one_twenty places bundle dealings journal
 
   -- the order and so many rounds behind it
-  turns_tame : (count : ℕ) → AreTame (FitShelf told faults) (fit_earlier told faults) (fit_one told faults)
-      (λ old party new. new ≡ old) (λ old party value answer new. RepliesByReading ticks clock_faults old value answer new) (λ c. ticks c ≡ Some readings) (TickAlike ticks clock_faults) (clocks_are_determined ticks clock_faults readings)
-      (λ old party new. new ≡ forgotten old) (KnownReplies one_text text_told text_faults) (BeginsWith one_text text_told text_faults content) (ServeAlike one_text text_told text_faults) (files_are_determined one_text text_told text_faults content)
-      places (λ a. rounds count (ordered bundle.order a))
-  turns_tame count = tame (FitShelf told faults) (fit_earlier told faults) (fit_one told faults)
-      (λ old party new. new ≡ old) (λ old party value answer new. RepliesByReading ticks clock_faults old value answer new) (λ c. ticks c ≡ Some readings) (TickAlike ticks clock_faults) (clocks_are_determined ticks clock_faults readings)
-      (λ old party new. new ≡ forgotten old) (KnownReplies one_text text_told text_faults) (BeginsWith one_text text_told text_faults content) (ServeAlike one_text text_told text_faults) (files_are_determined one_text text_told text_faults content)
-      places bundle count
+  turns_tame : (places : List K) (count : ℕ) → AreTame (FitShelf told faults) (fit_earlier told faults) (fit_one told faults)
+      forgets_ten replies_ten BeginsTen AlikeTen one_ten forgets_twenty replies_twenty BeginsTwenty AlikeTwenty one_twenty places (λ a. rounds count (ordered bundle.order a))
+  turns_tame places count = tame (FitShelf told faults) (fit_earlier told faults) (fit_one told faults)
+      forgets_ten replies_ten BeginsTen AlikeTen one_ten forgets_twenty replies_twenty BeginsTwenty AlikeTwenty one_twenty places bundle count
 
-  module _ (journal : Entries) (transcripts : List PlainTranscript) (clock clock_then : C) (text text_then : T) (shelves shelves_then : List K) (run : IsDeviceRun ticks clock_faults text_told text_faults told faults bundle journal transcripts clock clock_then text text_then shelves shelves_then)
-      (none : LeavesNoneUntold ticks clock_faults text_told text_faults told faults bundle journal transcripts clock clock_then text text_then shelves shelves_then run)
-      (ticking : ticks clock ≡ Some readings) (telling : text_told text ≡ Some content) (same : map told shelves ≡ map told places) where
-    -- its dealings fit
-    fitting : DealingsFit (FitShelf told faults) (fit_earlier told faults) (fit_one told faults) run.run.dealings places bundle.users
-    fitting = dealings_fit told faults run.run.dealings bundle.users places shelves shelves_then run.run.run.shelves_served none.saved same
+  -- what answers behind 10 and 20 has runs over it that are determined
+  abbrev pub AreAnswered : Entries → Type 0
+  AreAnswered journal = Answers forgets_ten replies_ten BeginsTen clock_party journal × Answers forgets_twenty replies_twenty BeginsTwenty text_party journal
 
-    clock_answers : Answers (λ (old : C) (party : ℕ) (new : C). new ≡ old) (λ old party value answer new. RepliesByReading ticks clock_faults old value answer new) (λ c. ticks c ≡ Some readings) clock_party journal
-    clock_answers = (clock, ticking, (clock_then, (run.run.run.parts Clock).answers))
+  -- each of them has
+  each_answered : (journal : Entries) → AreAnswered journal → (kind : AuxiliaryKind) → AnswersBehind forgets_ten replies_ten BeginsTen forgets_twenty replies_twenty BeginsTwenty kind journal
+  each_answered journal answered Clock = answered.0
+  each_answered journal answered TextFiles = answered.1
 
-    files_answer : Answers (λ (old : Served T) (party : ℕ) (new : Served T). new ≡ forgotten old) (KnownReplies one_text text_told text_faults) (BeginsWith one_text text_told text_faults content) text_party journal
-    files_answer = (record { store = text; state = idle }, record { tells = telling; state = refl }, (record { store = text_then; state = run.state }, known_run one_text text_told text_faults _ _ _ (run.run.run.parts TextFiles).answers none.files))
-
-    -- what answers behind each has its run
-    each_answers : (kind : AuxiliaryKind) → AnswersBehind (λ (old : C) (party : ℕ) (new : C). new ≡ old) (λ old party value answer new. RepliesByReading ticks clock_faults old value answer new) (λ c. ticks c ≡ Some readings)
-        (λ (old : Served T) (party : ℕ) (new : Served T). new ≡ forgotten old) (KnownReplies one_text text_told text_faults) (BeginsWith one_text text_told text_faults content) kind journal
-    each_answers Clock = clock_answers
-    each_answers TextFiles = files_answer
-
-    replied : Replied run.run.dealings journal
-    replied = record {
-      turns = run.run.turns.turns;
-      answers = each_answers;
-      fits = fit_at_end (FitShelf told faults) (fit_earlier told faults) (fit_one told faults) run.run.dealings journal places bundle.users
-          (users_left bundle run.run.dealings journal run.run.turns.turns) transcripts
-          ((turns_tame run.run.turns.turns.count).later (before_turns bundle run.run.dealings journal run.run.turns.turns))
-          (subst (λ (j : Entries). AreHeard j (users_left bundle run.run.dealings journal run.run.turns.turns)) run.run.turns.turns.last
-          ((turns_tame run.run.turns.turns.count).heard (before_turns bundle run.run.dealings journal run.run.turns.turns) (users_apart run.run.dealings bundle rules) (heard_nothing run.run.dealings bundle.users)))
-          run.run.run.users fitting;
+  module _ {X Y : Type 0} (forgets_x : X → ℕ → X → Type 0) (replies_x : X → ℕ → PlainArray → PlainArray → X → Type 0) (forgets_y : Y → ℕ → Y → Type 0) (replies_y : Y → ℕ → PlainArray → PlainArray → Y → Type 0) where
+    replied : (places : List K) (journal : Entries) (transcripts : List PlainTranscript) (ten ten_then : X) (twenty twenty_then : Y) (shelves shelves_then : List K)
+        → (run : IsRunInTurns forgets_x replies_x forgets_y replies_y told faults bundle journal transcripts ten ten_then twenty twenty_then shelves shelves_then)
+        → AreAnswered journal → AllTellThroughout told faults run.dealings bundle.users shelves shelves_then run.run.shelves_served → map told shelves ≡ map told places → Replied places run.dealings journal
+    replied places journal transcripts ten ten_then twenty twenty_then shelves shelves_then run answered all same = record {
+      turns = run.turns.turns;
+      answers = each_answered journal answered;
+      fits = fit_at_end (FitShelf told faults) (fit_earlier told faults) (fit_one told faults) run.dealings journal places bundle.users
+          (users_left bundle run.dealings journal run.turns.turns) transcripts
+          ((turns_tame places run.turns.turns.count).later (before_turns bundle run.dealings journal run.turns.turns))
+          (subst (λ (j : Entries). AreHeard j (users_left bundle run.dealings journal run.turns.turns)) run.turns.turns.last
+          ((turns_tame places run.turns.turns.count).heard (before_turns bundle run.dealings journal run.turns.turns) (users_apart run.dealings bundle rules) (heard_nothing run.dealings bundle.users)))
+          run.run.users (dealings_fit told faults run.dealings bundle.users places shelves shelves_then run.run.shelves_served all same);
     }
+
+    -- two runs of a bundle that are answered so, over shelves that tell the same and leave no entry untold, have one journal and the same transcripts
+    pub one_run : PartsMakeOneTranscript → (journal other : Entries) (transcripts others : List PlainTranscript) (ten ten_then tenth tenth_then : X) (twenty twenty_then twentieth twentieth_then : Y) (shelves shelves_then racks racks_then : List K)
+        → (run : IsRunInTurns forgets_x replies_x forgets_y replies_y told faults bundle journal transcripts ten ten_then twenty twenty_then shelves shelves_then)
+        → (rerun : IsRunInTurns forgets_x replies_x forgets_y replies_y told faults bundle other others tenth tenth_then twentieth twentieth_then racks racks_then)
+        → AreAnswered journal → AreAnswered other → AllTellThroughout told faults run.dealings bundle.users shelves shelves_then run.run.shelves_served
+        → AllTellThroughout told faults rerun.dealings bundle.users racks racks_then rerun.run.shelves_served → map told shelves ≡ map told racks → (journal ≡ other) × (transcripts ≡ others)
+    one_run one_transcript journal other transcripts others ten ten_then tenth tenth_then twenty twenty_then twentieth twentieth_then shelves shelves_then racks racks_then run rerun answered also all told_all same =
+        let first = replied shelves journal transcripts ten ten_then twenty twenty_then shelves shelves_then run answered all refl in
+        let second = replied shelves other others tenth tenth_then twentieth twentieth_then racks racks_then rerun also told_all (sym same) in
+        let one : journal ≡ other = one_journal (FitShelf told faults) (fit_earlier told faults) (fit_one told faults)
+        forgets_ten replies_ten BeginsTen AlikeTen one_ten forgets_twenty replies_twenty BeginsTwenty AlikeTwenty one_twenty shelves bundle run.dealings rerun.dealings journal other first second in
+        let theirs : AreUserParts rerun.dealings journal bundle.users others = subst (λ (j : Entries). AreUserParts rerun.dealings j bundle.users others) (sym one) rerun.run.users in
+        let dealings : AllByRecursion (λ (user : PlainUser). run.dealings user.number ≡ rerun.dealings user.number) bundle.users =
+        same_dealings (FitShelf told faults) (fit_earlier told faults) (fit_one told faults) run.dealings rerun.dealings journal shelves bundle.users transcripts others run.run.users theirs
+        (dealings_fit told faults run.dealings bundle.users shelves shelves shelves_then run.run.shelves_served all refl)
+        (dealings_fit told faults rerun.dealings bundle.users shelves racks racks_then rerun.run.shelves_served told_all (sym same)) in
+        (one, one_transcript bundle run.dealings journal transcripts others run.run.users (same_parts run.dealings rerun.dealings journal bundle.users others dealings theirs))
+
+-- ---- replays
 
 -- replays are determined
 pub one_replay : OneText → PartsMakeOneTranscript → {C T K : Type 0} (ticks : C → Option Ticks) (clock_faults : C → ℕ) (text_told : T → Option (Told (List ℕ))) (text_faults : T → ℕ) (told : K → Option (Told (ℕ × List ℕ))) (faults : K → ℕ)
@@ -133,18 +143,19 @@ pub one_replay : OneText → PartsMakeOneTranscript → {C T K : Type 0} (ticks 
 one_replay one_text one_transcript ticks clock_faults text_told text_faults told faults bundle journal other transcripts others clock clock_then another another_then text text_then files files_then shelves shelves_then racks racks_then rules run rerun none also ticking telling same =
     let readings = some_of (ticks clock) none.readings in
     let content = some_and (text_told text) (λ now. (key : List ℕ) → entry_of name_order now key ≢ Some None) (holds_at_start one_text text_told text_faults _ _ _ (run.run.run.parts TextFiles).answers none.files) in
-    let first = replied one_text ticks clock_faults text_told text_faults told faults bundle rules readings.0 content.0 shelves journal transcripts clock clock_then text text_then shelves shelves_then run none readings.1 content.1 refl in
-    let second = replied one_text ticks clock_faults text_told text_faults told faults bundle rules readings.0 content.0 shelves other others another another_then files files_then racks racks_then rerun also (sym ticking ∙ readings.1) (sym telling ∙ content.1) (sym same) in
-    let one : journal ≡ other = one_journal (FitShelf told faults) (fit_earlier told faults) (fit_one told faults)
-    (λ old party new. new ≡ old) (λ old party value answer new. RepliesByReading ticks clock_faults old value answer new) (λ c. ticks c ≡ Some readings.0) (TickAlike ticks clock_faults) (clocks_are_determined ticks clock_faults readings.0)
+    one_run (λ old party new. new ≡ old) (λ old party value answer new. RepliesByReading ticks clock_faults old value answer new) (λ c. ticks c ≡ Some readings.0) (TickAlike ticks clock_faults) (clocks_are_determined ticks clock_faults readings.0)
     (λ old party new. new ≡ forgotten old) (KnownReplies one_text text_told text_faults) (BeginsWith one_text text_told text_faults content.0) (ServeAlike one_text text_told text_faults) (files_are_determined one_text text_told text_faults content.0)
-    shelves bundle run.run.dealings rerun.run.dealings journal other first second in
-    let theirs : AreUserParts rerun.run.dealings journal bundle.users others = subst (λ (j : Entries). AreUserParts rerun.run.dealings j bundle.users others) (sym one) rerun.run.run.users in
-    let dealings : AllByRecursion (λ (user : PlainUser). run.run.dealings user.number ≡ rerun.run.dealings user.number) bundle.users =
-    same_dealings (FitShelf told faults) (fit_earlier told faults) (fit_one told faults) run.run.dealings rerun.run.dealings journal shelves bundle.users transcripts others run.run.run.users theirs
-    (dealings_fit told faults run.run.dealings bundle.users shelves shelves shelves_then run.run.run.shelves_served none.saved refl)
-    (dealings_fit told faults rerun.run.dealings bundle.users shelves racks racks_then rerun.run.run.shelves_served also.saved (sym same)) in
-    (one, one_transcript bundle run.run.dealings journal transcripts others run.run.run.users (same_parts run.run.dealings rerun.run.dealings journal bundle.users others dealings theirs))
+    told faults bundle rules
+    (λ old party new. new ≡ old) (λ old party value answer new. RepliesByReading ticks clock_faults old value answer new) (λ old party new. new ≡ forgotten old) (λ old party value answer new. Replies text_told text_faults old value answer new)
+    one_transcript journal other transcripts others clock clock_then another another_then
+    (record { store = text; state = idle }) (record { store = text_then; state = run.state }) (record { store = files; state = idle }) (record { store = files_then; state = rerun.state }) shelves shelves_then racks racks_then run.run rerun.run (
+      (clock, readings.1, (clock_then, (run.run.run.parts Clock).answers)),
+      (record { store = text; state = idle }, record { tells = content.1; state = refl }, (record { store = text_then; state = run.state }, known_run one_text text_told text_faults _ _ _ (run.run.run.parts TextFiles).answers none.files)),
+    ) (
+      (another, sym ticking ∙ readings.1, (another_then, (rerun.run.run.parts Clock).answers)),
+      (record { store = files; state = idle }, record { tells = sym telling ∙ content.1; state = refl }, (record { store = files_then; state = rerun.state }, known_run one_text text_told text_faults _ _ _ (rerun.run.run.parts TextFiles).answers also.files)),
+    )
+    none.saved also.saved same
 
 -- and so is what is written of them
 pub one_written : OneText → PartsMakeOneTranscript → {C T K : Type 0} (ticks : C → Option Ticks) (clock_faults : C → ℕ) (text_told : T → Option (Told (List ℕ))) (text_faults : T → ℕ) (told : K → Option (Told (ℕ × List ℕ))) (faults : K → ℕ)

@@ -34,7 +34,7 @@ pub record TellsSound {K : Type 0} (order : K → K → Ordering) (o : Option (T
 tells_all : {K : Type 0} (order : K → K → Ordering) (o : Option (Told K)) → TellsSound order o → TellsAll order o
 tells_all order o h = subst (λ (p : Option (Told _)). TellsAll order p) (sym h.tells) h.sound.told
 
-none_fails : (T : Type 0) (calls : ℕ) (fails : List ℕ) → fails ≡ [] → FailsByNumber {T = T} calls fails (Err Failed) → ⊥
+pub none_fails : (T : Type 0) (calls : ℕ) (fails : List ℕ) → fails ≡ [] → FailsByNumber {T = T} calls fails (Err Failed) → ⊥
 none_fails T calls [] none failed = let no : false ≡ true = failed in cc
 none_fails T calls (number ∷ fails) none failed = absurd cc
 
@@ -43,12 +43,12 @@ wanted_told true wanted before all told = all
 wanted_told false wanted before all told = told
 
 module _ {K : Type 0} (order : K → K → Ordering) where
-  called_sound : (a c : Told K) → c ≡ after_call a → IsSound order a → IsSound order c
+  pub called_sound : (a c : Told K) → c ≡ after_call a → IsSound order a → IsSound order c
   called_sound a c after h =
       let called : IsSound order (after_call a) = record { fails = h.fails; told = h.told } in
       subst (IsSound order) (sym after) called
 
-  changed_sound : {T : Type 0} (a c : Told K) (key : K) (wanted : Option (Option (List ℕ))) (r : Result T StoreError) → wanted ≢ Some None → r ≢ Err WantOfMemory → IsChange order a key wanted r c → IsSound order a → IsSound order c
+  pub changed_sound : {T : Type 0} (a c : Told K) (key : K) (wanted : Option (Option (List ℕ))) (r : Result T StoreError) → wanted ≢ Some None → r ≢ Err WantOfMemory → IsChange order a key wanted r c → IsSound order a → IsSound order c
   changed_sound a c key wanted (Ok x) all here change h = record {
     fails = change.fails ∙ h.fails;
     told = λ other. subst (λ (entry : Option (Option (List ℕ))). entry ≢ Some None) (sym (change.entries other)) (wanted_told (is_at (order key) other) wanted (entry_of order a other) all (h.told other));

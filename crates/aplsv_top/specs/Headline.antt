@@ -1,6 +1,7 @@
 -- What the program promises of the bytes that it reads and writes.
 use Rattle.std.specs.Prelude.{◌≡◌, ◌≤◌, ℕ, Bool, true, false, List, [], ◌∷◌, None, Option, Some, drop, length, map, option_map, reverse, take}
 use Rattle.std.specs.Io.KnownBytes.{Appends}
+use Rattle.apl_arrays.specs.Array.{PlainArray}
 use Rattle.apl_io.specs.Clock.{Ticks}
 use Rattle.apl_io.specs.Content.{Told, placed}
 use Rattle.apl_io.specs.Kept.{Keeper, Timer, file_entry, new_keeper}
@@ -13,7 +14,16 @@ use Rattle.bundle_text.specs.Bundle.{BundleText, IsNoBundle, PlainBundle}
 use Rattle.bundle_text.specs.declared.refused.BundleRule.{BundleRule}
 use Rattle.apl_session.specs.declared.outcome.Ended.{Ended}
 use Rattle.apl_session.specs.declared.outcome.Ended.TheVariants.{Whole, WantOfMemory}
-use Rattle.aplsv_replay.specs.Replayed.{IsDeviceRun}
+use Rattle.auxiliaries.specs.Clock.{RepliesByReading}
+use Rattle.auxiliaries.specs.Protocol.{TextState, idle}
+use Rattle.auxiliaries.specs.Served.{Replies, Served, forgotten}
+use Rattle.aux_components.specs.Filed as component
+use Rattle.aux_components.specs.Filed.{Filed}
+use Rattle.aux_components.specs.Protocol as component_state
+use Rattle.aux_components.specs.Protocol.{FileState}
+use Rattle.aux_relay.specs.Queues.{Queues, Relays}
+use Rattle.aplsv_replay.specs.Replayed.{IsDeviceRun, IsRunInTurns}
+use Rattle.aplsv_serve.specs.Runs.{IsSomeRun}
 use Rattle.aplsv_words.specs.Meaning.{Asked}
 
 -- the text store of a run: the bundle's files, before the first call, none of which is to fail
@@ -60,31 +70,41 @@ pub record IsOutputOver {C T K : Type 0} (ticks : C → Option Ticks) (clock_fau
   pub output : text ≡ output_text transcripts (reverse journal)
   pub printable : ArePrintable transcripts (reverse journal)
 
--- what may be said of the clock of a run: by what it tells, its faults, and what it is before and after
-abbrev pub SaidOfClock : Type 1
-SaidOfClock = (C : Type 0) → (C → Option Ticks) → (C → ℕ) → C → C → Type 0
+-- what may be said of what answers behind an auxiliary: by what it forgets and what it replies, and what it is before and after
+abbrev pub SaidOfReplier : Type 1
+SaidOfReplier = (S : Type 0) → (S → ℕ → S → Type 0) → (S → ℕ → PlainArray → PlainArray → S → Type 0) → S → S → Type 0
 
--- so of its text store
-abbrev pub SaidOfText : Type 1
-SaidOfText = (T : Type 0) → (T → Option (Told (List ℕ))) → (T → ℕ) → T → T → Type 0
-
--- and of its shelves
+-- and of the shelves of a run: by what they tell, their faults, and what they are before and after
 abbrev pub SaidOfShelves : Type 1
 SaidOfShelves = (K : Type 0) → (K → Option (Told (ℕ × List ℕ))) → (K → ℕ) → List K → List K → Type 0
 
--- it holds of the clock that was handed in where that is named, and else of one of the bundle's readings
-abbrev pub OverClock : {C : Type 0} → (C → Option Ticks) → (C → ℕ) → Bool → PlainBundle → C → C → SaidOfClock → Type 0
-OverClock {C} ticks faults true bundle clock clock_then Holds = Holds C ticks faults clock clock_then
-OverClock ticks faults false bundle clock clock_then Holds = (readings : Timer) × Holds Timer (λ c. Some c.told) (λ c. c.faults) (clock_of bundle) readings
+-- it holds of the readings of this clock
+abbrev pub OverClock : {C : Type 0} → (C → Option Ticks) → (C → ℕ) → C → C → SaidOfReplier → Type 0
+OverClock {C} ticks faults clock clock_then Holds = Holds C (λ old party new. new ≡ old) (λ old party value answer new. RepliesByReading ticks faults old value answer new) clock clock_then
+
+-- it holds of what answers behind 10: a relay that held nothing, where one is asked for; else the clock that was handed in, where it is named; and else one of the bundle's readings
+abbrev pub BehindTen : {C : Type 0} → (C → Option Ticks) → (C → ℕ) → Bool → Bool → PlainBundle → C → C → SaidOfReplier → Type 0
+BehindTen ticks faults true named bundle clock clock_then Holds = (queues : Queues) × Holds Queues (λ old party new. new ≡ old) Relays [] queues
+BehindTen ticks faults false true bundle clock clock_then Holds = OverClock ticks faults clock clock_then Holds
+BehindTen ticks faults false false bundle clock clock_then Holds = (readings : Timer) × OverClock (λ c. Some c.told) (λ c. c.faults) (clock_of bundle) readings Holds
+
+-- it holds of the files in this store: of component files, where they are asked for, and else of files of lines. The protocol begins between files, and stands somewhere at the end
+abbrev pub OverFiles : {T : Type 0} → (T → Option (Told (List ℕ))) → (T → ℕ) → Bool → T → T → SaidOfReplier → Type 0
+OverFiles {T} told faults true files files_then Holds =
+    (state : FileState) × Holds (Filed T) (λ old party new. new ≡ component.forgotten old) (λ old party value answer new. component.Replies told faults old value answer new)
+    (record { store = files; state = component_state.idle }) (record { store = files_then; state = state })
+OverFiles {T} told faults false files files_then Holds =
+    (state : TextState) × Holds (Served T) (λ old party new. new ≡ forgotten old) (λ old party value answer new. Replies told faults old value answer new)
+    (record { store = files; state = idle }) (record { store = files_then; state = state })
 
 -- a store tells what it told before, with this place more behind its places, where it told anything; and its count of faults did not fall
 abbrev pub IsPlaced : {T : Type 0} → (T → Option (Told (List ℕ))) → (T → ℕ) → List ℕ → T → T → Type 0
 IsPlaced told faults place before now = (told now ≡ option_map (placed place) (told before)) × (faults before ≤ faults now)
 
--- it holds of the text store that was handed in, at its place, where that is named, and else of one of the bundle's files
-abbrev pub OverText : {T : Type 0} → (T → Option (Told (List ℕ))) → (T → ℕ) → Option (List ℕ) → PlainBundle → T → T → SaidOfText → Type 0
-OverText {T} told faults (Some place) bundle files files_then Holds = (placed : T) × IsPlaced told faults place files placed × Holds T told faults placed files_then
-OverText told faults None bundle files files_then Holds = (kept : Keeper (List ℕ)) × Holds (Keeper (List ℕ)) (λ t. Some t.told) (λ t. t.faults) (text_store_of bundle) kept
+-- it holds of what answers behind 20: of files in the store that was handed in, at its place, where that is named, and else in one of the bundle's files
+abbrev pub BehindTwenty : {T : Type 0} → (T → Option (Told (List ℕ))) → (T → ℕ) → Option (List ℕ) → Bool → PlainBundle → T → T → SaidOfReplier → Type 0
+BehindTwenty {T} told faults (Some place) components bundle files files_then Holds = (placed : T) × IsPlaced told faults place files placed × OverFiles told faults components placed files_then Holds
+BehindTwenty told faults None components bundle files files_then Holds = (kept : Keeper (List ℕ)) × OverFiles (λ t. Some t.told) (λ t. t.faults) components (text_store_of bundle) kept Holds
 
 -- of shelves before and now, one by one as far as there are of both, no count of faults fell
 abbrev pub NoneFell : {K : Type 0} → (K → ℕ) → List K → List K → Type 0
@@ -103,35 +123,43 @@ abbrev pub OverShelves : {K : Type 0} → (K → Option (Told (ℕ × List ℕ))
 OverShelves {K} told faults (Some place) bundle shelves shelves_then Holds = (placed : List K) × AreToldTheirPlace told faults place (length bundle.users) shelves placed × Holds K told faults placed shelves_then
 OverShelves told faults None bundle shelves shelves_then Holds = (kept : List (Keeper (ℕ × List ℕ))) × Holds (Keeper (ℕ × List ℕ)) (λ k. Some k.told) (λ k. k.faults) (shelves_of bundle) kept
 
--- it is a run of this bundle over a clock, a text store, and the shelves that are named: this is its journal, and these are its transcripts
-abbrev pub ShelvedRun : {C T K : Type 0} → (C → Option Ticks) → (C → ℕ) → (T → Option (Told (List ℕ))) → (T → ℕ) → (K → Option (Told (ℕ × List ℕ))) → (K → ℕ)
-    → Option (List ℕ) → PlainBundle → Entries → List PlainTranscript → C → C → T → T → List K → List K → Type 0
-ShelvedRun ticks clock_faults text_told text_faults told faults library bundle journal transcripts clock clock_then files files_then shelves shelves_then =
+-- a run of this bundle by one of the drivers: this is its journal, and these are its transcripts. It is in turns, so that its journal is that of the bundle's replay, or it is on threads, whoever had his turn when
+abbrev pub RunBy : {X Y K : Type 0} → Bool → (X → ℕ → X → Type 0) → (X → ℕ → PlainArray → PlainArray → X → Type 0) → (Y → ℕ → Y → Type 0) → (Y → ℕ → PlainArray → PlainArray → Y → Type 0) → (K → Option (Told (ℕ × List ℕ))) → (K → ℕ)
+    → PlainBundle → Entries → List PlainTranscript → X → X → Y → Y → List K → List K → Type 0
+RunBy true forgets_ten replies_ten forgets_twenty replies_twenty told faults bundle journal transcripts ten ten_then twenty twenty_then shelves shelves_then =
+    IsRunInTurns forgets_ten replies_ten forgets_twenty replies_twenty told faults bundle journal transcripts ten ten_then twenty twenty_then shelves shelves_then
+RunBy false forgets_ten replies_ten forgets_twenty replies_twenty told faults bundle journal transcripts ten ten_then twenty twenty_then shelves shelves_then =
+    IsSomeRun forgets_ten replies_ten forgets_twenty replies_twenty told faults bundle journal transcripts ten ten_then twenty twenty_then shelves shelves_then
+
+-- over what answers behind 10 and 20, and the shelves that are named
+abbrev pub ShelvedRun : {X Y K : Type 0} → Bool → (X → ℕ → X → Type 0) → (X → ℕ → PlainArray → PlainArray → X → Type 0) → (Y → ℕ → Y → Type 0) → (Y → ℕ → PlainArray → PlainArray → Y → Type 0) → (K → Option (Told (ℕ × List ℕ))) → (K → ℕ)
+    → Option (List ℕ) → PlainBundle → Entries → List PlainTranscript → X → X → Y → Y → List K → List K → Type 0
+ShelvedRun in_turns forgets_ten replies_ten forgets_twenty replies_twenty told faults library bundle journal transcripts ten ten_then twenty twenty_then shelves shelves_then =
     OverShelves told faults library bundle shelves shelves_then (λ K told faults shelves shelves_then.
-    IsDeviceRun ticks clock_faults text_told text_faults told faults bundle journal transcripts clock clock_then files files_then shelves shelves_then)
+    RunBy in_turns forgets_ten replies_ten forgets_twenty replies_twenty told faults bundle journal transcripts ten ten_then twenty twenty_then shelves shelves_then)
 
--- over a text store, and the clock and the shelves that are named
-abbrev pub ClockedRun : {C T K : Type 0} → (C → Option Ticks) → (C → ℕ) → (T → Option (Told (List ℕ))) → (T → ℕ) → (K → Option (Told (ℕ × List ℕ))) → (K → ℕ)
-    → Bool → Option (List ℕ) → PlainBundle → Entries → List PlainTranscript → C → C → T → T → List K → List K → Type 0
-ClockedRun ticks clock_faults text_told text_faults told faults named library bundle journal transcripts clock clock_then files files_then shelves shelves_then =
-    OverClock ticks clock_faults named bundle clock clock_then (λ C ticks clock_faults clock clock_then.
-    ShelvedRun ticks clock_faults text_told text_faults told faults library bundle journal transcripts clock clock_then files files_then shelves shelves_then)
+-- over what answers behind 20, and what is named for 10 and for shelves
+abbrev pub TwentyRun : {C Y K : Type 0} → Bool → (C → Option Ticks) → (C → ℕ) → (Y → ℕ → Y → Type 0) → (Y → ℕ → PlainArray → PlainArray → Y → Type 0) → (K → Option (Told (ℕ × List ℕ))) → (K → ℕ)
+    → Bool → Bool → Option (List ℕ) → PlainBundle → Entries → List PlainTranscript → C → C → Y → Y → List K → List K → Type 0
+TwentyRun in_turns ticks clock_faults forgets_twenty replies_twenty told faults relay named library bundle journal transcripts clock clock_then twenty twenty_then shelves shelves_then =
+    BehindTen ticks clock_faults relay named bundle clock clock_then (λ X forgets_ten replies_ten ten ten_then.
+    ShelvedRun in_turns forgets_ten replies_ten forgets_twenty replies_twenty told faults library bundle journal transcripts ten ten_then twenty twenty_then shelves shelves_then)
 
--- over the text store, the clock and the shelves that are named
-abbrev pub NamedRun : {C T K : Type 0} → (C → Option Ticks) → (C → ℕ) → (T → Option (Told (List ℕ))) → (T → ℕ) → (K → Option (Told (ℕ × List ℕ))) → (K → ℕ)
-    → Option (List ℕ) → Bool → Option (List ℕ) → PlainBundle → Entries → List PlainTranscript → C → C → T → T → List K → List K → Type 0
-NamedRun ticks clock_faults text_told text_faults told faults place named library bundle journal transcripts clock clock_then files files_then shelves shelves_then =
-    OverText text_told text_faults place bundle files files_then (λ T text_told text_faults files files_then.
-    ClockedRun ticks clock_faults text_told text_faults told faults named library bundle journal transcripts clock clock_then files files_then shelves shelves_then)
+-- over all that is named
+abbrev pub NamedRun : {C T K : Type 0} → Bool → (C → Option Ticks) → (C → ℕ) → (T → Option (Told (List ℕ))) → (T → ℕ) → (K → Option (Told (ℕ × List ℕ))) → (K → ℕ)
+    → Option (List ℕ) → Bool → Bool → Bool → Option (List ℕ) → PlainBundle → Entries → List PlainTranscript → C → C → T → T → List K → List K → Type 0
+NamedRun in_turns ticks clock_faults text_told text_faults told faults place components relay named library bundle journal transcripts clock clock_then files files_then shelves shelves_then =
+    BehindTwenty text_told text_faults place components bundle files files_then (λ Y forgets_twenty replies_twenty twenty twenty_then.
+    TwentyRun in_turns ticks clock_faults forgets_twenty replies_twenty told faults relay named library bundle journal transcripts clock clock_then twenty twenty_then shelves shelves_then)
 
--- the bytes are the text of a bundle, and the text is the output of a run of it over what is asked for
+-- the bytes are the text of a bundle, and the text is the output of a run of it over what is asked for: in turns, where a replay is asked for, and else on threads
 pub record IsOutputAs {C T K : Type 0} (ticks : C → Option Ticks) (clock_faults : C → ℕ) (text_told : T → Option (Told (List ℕ))) (text_faults : T → ℕ) (told : K → Option (Told (ℕ × List ℕ))) (faults : K → ℕ)
     (asked : Asked) (clock clock_then : C) (files files_then : T) (shelves shelves_then : List K) (bytes text : List ℕ) : Type 0 where
   pub bundle : PlainBundle
   pub read : BundleText bytes bundle
   pub transcripts : List PlainTranscript
   pub journal : Entries
-  pub run : NamedRun ticks clock_faults text_told text_faults told faults asked.text asked.clock asked.library bundle journal transcripts clock clock_then files files_then shelves shelves_then
+  pub run : NamedRun asked.replay ticks clock_faults text_told text_faults told faults asked.text asked.components asked.relay asked.clock asked.library bundle journal transcripts clock clock_then files files_then shelves shelves_then
   pub output : text ≡ output_text transcripts (reverse journal)
   pub printable : ArePrintable transcripts (reverse journal)
 

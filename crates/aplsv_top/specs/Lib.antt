@@ -3,5 +3,7 @@ pub mod Headline
 pub mod Loads
 pub mod OutputLaws
 pub mod Printed
+pub mod Relayed
+pub mod StoredFiles
 pub mod Summary
 pub mod Words

@@ -1,5 +1,5 @@
 -- What the program promises of a load.
-use Rattle.std.specs.Prelude.{◌≡◌, ℕ, List, Option, reverse}
+use Rattle.std.specs.Prelude.{◌≡◌, ℕ, true, List, Option, reverse}
 use Rattle.std.specs.Io.KnownBytes.{Appends}
 use Rattle.apl_io.specs.Clock.{Ticks}
 use Rattle.apl_io.specs.Content.{Told}
@@ -30,7 +30,7 @@ pub record IsLoadAs {C T K : Type 0} (ticks : C → Option Ticks) (clock_faults 
   pub made : BundleText (load_text n) bundle
   pub transcripts : List PlainTranscript
   pub journal : Entries
-  pub run : NamedRun ticks clock_faults text_told text_faults told faults asked.text asked.clock asked.library bundle journal transcripts clock clock_then files files_then shelves shelves_then
+  pub run : NamedRun true ticks clock_faults text_told text_faults told faults asked.text asked.components asked.relay asked.clock asked.library bundle journal transcripts clock clock_then files files_then shelves shelves_then
   pub summary : IsSummary n transcripts (reverse journal) text
 
 -- how a load can end

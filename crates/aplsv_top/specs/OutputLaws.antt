@@ -1,5 +1,5 @@
 -- What holds of outputs.
-use Rattle.std.specs.Prelude.{◌≡◌, ◌≢◌, ℕ, List, [], ◌∷◌, Option, Some, None, IsSome, IsSomeAnd, map}
+use Rattle.std.specs.Prelude.{◌≡◌, ◌≢◌, ℕ, true, false, List, [], ◌∷◌, Option, Some, None, IsSome, IsSomeAnd, map}
 use Rattle.std.specs.declared.cmp.Ordering.{Ordering}
 use Rattle.apl_arrays.specs.Array.{PlainArray}
 use Rattle.apl_arrays.specs.Name.{name_order}
@@ -16,7 +16,8 @@ use Rattle.sv_delivery_laws.specs.DeliveryLaws.{WhatControlGives}
 use Rattle.session_rules.specs.Run.{Dealings, ServeUsers}
 use Rattle.session_rules.specs.Shelf.{Exchange, IsShelfRun}
 use Rattle.aplsv_replay.specs.Replayed.{IsDeviceRun}
-use Rattle.aplsv_top.specs.Headline.{IsOutputFor, IsOutputOver}
+use Rattle.aplsv_words.specs.Meaning.{Asked}
+use Rattle.aplsv_top.specs.Headline.{IsOutputAs, IsOutputFor, IsOutputOver}
 
 -- for the bytes read there is one output and no other
 abbrev pub BundlesHaveOneOutput : Type 0
@@ -51,6 +52,13 @@ module _ {K : Type 0} (told : K → Option (Told (ℕ × List ℕ))) (faults : K
   AllTellThroughout dealings (user ∷ users) (shelf ∷ shelves) (shelf_then ∷ shelves_then) served =
       TellsThroughout user.number shelf (dealings user.number) shelf_then served.0 × AllTellThroughout dealings users shelves shelves_then served.1
 
+-- a replay is asked for, and no word names a device
+pub record ReplaysItsOwn (asked : Asked) : Type 0 where
+  pub replay : asked.replay ≡ true
+  pub text : asked.text ≡ None
+  pub clock : asked.clock ≡ false
+  pub library : asked.library ≡ None
+
 module _ {C T K : Type 0} (ticks : C → Option Ticks) (clock_faults : C → ℕ) (text_told : T → Option (Told (List ℕ))) (text_faults : T → ℕ) (told : K → Option (Told (ℕ × List ℕ))) (faults : K → ℕ) where
   -- a run whose devices tell what they keep, and leave no entry of it untold
   pub record LeavesNoneUntold (bundle : PlainBundle) (journal : Entries) (transcripts : List PlainTranscript) (clock clock_then : C) (text text_then : T) (shelves shelves_then : List K)
@@ -80,3 +88,11 @@ module _ {C T K : Type 0} (ticks : C → Option Ticks) (clock_faults : C → ℕ
       → LeavesNoneUntold bundle output.journal output.transcripts clock clock_then texts texts_then shelves shelves_then output.run
       → LeavesNoneUntold bundle again.journal again.transcripts another another_then files files_then racks racks_then again.run
       → ticks clock ≡ ticks another → text_told texts ≡ text_told files → map told shelves ≡ map told racks → text ≡ other
+
+  -- where a replay is asked for and no word names a device, the output is one function of the bytes read, and of whether component files and a relay are asked for
+  abbrev pub OwnOutputsAreOne : Type 0
+  OwnOutputsAreOne =
+      (asked wanted : Asked) (clock clock_then another another_then : C) (texts texts_then files files_then : T) (shelves shelves_then racks racks_then : List K) (bytes text other : List ℕ)
+      → ReplaysItsOwn asked → ReplaysItsOwn wanted → asked.components ≡ wanted.components → asked.relay ≡ wanted.relay
+      → IsOutputAs ticks clock_faults text_told text_faults told faults asked clock clock_then texts texts_then shelves shelves_then bytes text
+      → IsOutputAs ticks clock_faults text_told text_faults told faults wanted another another_then files files_then racks racks_then bytes other → text ≡ other

@@ -1,5 +1,5 @@
 -- What is printed, whatever devices a run had.
-use Rattle.std.specs.Prelude.{◌≡◌, ℕ, false, List, None, Option, reverse}
+use Rattle.std.specs.Prelude.{◌≡◌, ℕ, true, false, List, None, Option, reverse}
 use Rattle.apl_io.specs.Clock.{Ticks}
 use Rattle.apl_io.specs.Content.{Told}
 use Rattle.bundle_text.specs.Bundle.{BundleText, PlainBundle}
@@ -35,9 +35,9 @@ module _ {C T K : Type 0} (ticks : C → Option Ticks) (clock_faults : C → ℕ
   WhatIsWrittenIsPrinted = (asked : Asked) (clock clock_then : C) (files files_then : T) (shelves shelves_then : List K) (left rest held now : Option (List ℕ))
       → WritesRun (IsOutputAs ticks clock_faults text_told text_faults told faults asked clock clock_then files files_then shelves shelves_then) left rest held now → WritesRun IsPrinted left rest held now
 
-  -- where no word names a device, it is the output of a run over the bundle's own, so that it is the only one
+  -- where a replay is asked for, and no word names a device, component files or a relay, it is the output of a run over the bundle's own, so that it is the only one
   abbrev pub OwnOutputsAreTheBundles : Type 0
-  OwnOutputsAreTheBundles = (asked : Asked) (clock clock_then : C) (files files_then : T) (shelves shelves_then : List K) (bytes text : List ℕ) → asked.text ≡ None → asked.clock ≡ false → asked.library ≡ None
+  OwnOutputsAreTheBundles = (asked : Asked) (clock clock_then : C) (files files_then : T) (shelves shelves_then : List K) (bytes text : List ℕ) → asked.replay ≡ true → asked.text ≡ None → asked.clock ≡ false → asked.library ≡ None → asked.components ≡ false → asked.relay ≡ false
       → IsOutputAs ticks clock_faults text_told text_faults told faults asked clock clock_then files files_then shelves shelves_then bytes text → IsOutputFor bytes text
 
 -- in what is printed each set and each use of an offered name is granted exactly where the access table allows it over the entries before it, and else refused by the element that it names

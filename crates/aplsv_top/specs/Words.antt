@@ -1,5 +1,5 @@
 -- What words ask of the program, and how it may end.
-use Rattle.std.specs.Prelude.{◌≡◌, ◌||◌, ℕ, List, is_some, true}
+use Rattle.std.specs.Prelude.{◌≡◌, ℕ, List, true}
 use Rattle.aplsv_words.specs.Meaning.{Asked, Means}
 use Rattle.aplsv_top.specs.declared.status.Status.{Status}
 use Rattle.aplsv_top.specs.declared.status.Status.TheVariants as status
@@ -8,9 +8,9 @@ use Rattle.aplsv_top.specs.declared.status.Status.TheVariants as status
 abbrev pub AskReplay : List (List ℕ) → Type 0
 AskReplay words = (asked : Asked) × Means words asked × (asked.replay ≡ true)
 
--- the words have a meaning, and --replay or --load is among them
-abbrev pub AskRun : List (List ℕ) → Type 0
-AskRun words = (asked : Asked) × Means words asked × ((asked.replay || is_some asked.load) ≡ true)
+-- the words have a meaning
+abbrev pub HaveMeaning : List (List ℕ) → Type 0
+HaveMeaning words = (asked : Asked) × Means words asked
 
 -- the bytes themselves decided: their run was written, or they are said to be no bundle, or memory ran out
 abbrev pub IsConclusion : Status → Type 0

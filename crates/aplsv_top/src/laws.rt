@@ -1,6 +1,7 @@
-ghost use Rattle.aplsv_top.specs.OutputLaws.{BundlesHaveOneOutput, OutputsAreDetermined, PrintedControlLosesNothing, ReplaysAreDetermined};
+ghost use Rattle.aplsv_top.specs.OutputLaws.{BundlesHaveOneOutput, OutputsAreDetermined, OwnOutputsAreOne, PrintedControlLosesNothing, ReplaysAreDetermined};
 
 use apl_io::{Clock, Shelf, TextStore};
+use aux_components::files_are_read_in_one_way as component_files_are_read_in_one_way;
 use auxiliaries::files_are_read_in_one_way;
 use bundle_text::texts_are_of_one_bundle;
 use session_rules::one_transcript_of_parts;
@@ -31,6 +32,17 @@ pub fn outputs_are_determined<T: TextStore, C: Clock, K: Shelf>()
     ensures { OutputsAreDetermined C.told C.faults T.told T.faults K.told K.faults }
 {
     files_are_read_in_one_way();
+    one_transcript_of_parts();
+}
+
+/// Where no word names a device, what is written is one function of the bytes read, and of whether component files and a relay
+/// are asked for: so it is everywhere the same. The call does nothing.
+pub fn own_outputs_are_one<T: TextStore, C: Clock, K: Shelf>()
+    ensures { OwnOutputsAreOne C.told C.faults T.told T.faults K.told K.faults }
+{
+    texts_are_of_one_bundle();
+    files_are_read_in_one_way();
+    component_files_are_read_in_one_way();
     one_transcript_of_parts();
 }
 

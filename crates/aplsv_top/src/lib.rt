@@ -1,13 +1,17 @@
 //! The program, from the words of its command line to the bytes that it writes.
 #![tactic(auto)]
 
+mod behind_ten;
+mod behind_twenty;
 mod bytes;
+mod driver;
 mod laws;
 mod loads;
 mod memory;
-mod one_thread;
 mod output;
+mod over_shelves;
 mod printed;
+mod program;
 mod run;
 mod status;
 mod summaries;
@@ -15,15 +19,15 @@ mod top;
 
 pub use bytes::replay_bytes;
 pub use laws::{
-    a_bundle_has_one_output, outputs_are_determined, printed_control_loses_nothing,
-    replays_are_determined,
+    a_bundle_has_one_output, outputs_are_determined, own_outputs_are_one,
+    printed_control_loses_nothing, replays_are_determined,
 };
-pub use one_thread::aplsv_on_one_thread;
 pub use printed::{
     outputs_are_printed, own_outputs_are_the_bundles, printed_accesses_follow_the_table,
     printed_journals_answer_full_past_their_limit, printed_transcripts_are_evaluated_alone,
-    printed_uses_give_the_last_value,
+    printed_uses_give_the_last_value, relayed_texts_arrive,
 };
+pub use program::aplsv;
 pub use status::{Finish, Status};
 pub use summaries::summary;
 pub use top::aplsv_replay_words;

@@ -1,9 +1,10 @@
-ghost use Rattle.std.specs.Prelude.{◌≡◌, ◌≢◌, ◌≤◌, false, None, vec_len};
+ghost use Rattle.std.specs.Prelude.{◌≡◌, ◌≢◌, ◌≤◌, false, None, true, vec_len};
 ghost use Rattle.apl_arrays.specs.Limits.{most_users};
 ghost use Rattle.aplsv_words.specs.Meaning.{asked_by};
 ghost use Rattle.aplsv_top.specs.Loads.{HasLoadCause, IsLoadAs};
 ghost use Rattle.aplsv_top.specs.declared.status.Status.TheVariants as status;
 
+use crate::driver::InTurns;
 use crate::run::{Ran, run_as_asked};
 use crate::status::{Finish, Status};
 use crate::summaries::summary_in;
@@ -16,7 +17,12 @@ use std::alloc::Global;
 
 /// Makes the bundle of so many numbers, runs it over the devices that the words name, and writes its summary. Nothing is read.
 /// It takes memory for the bundle, the run and the summary.
-pub(crate) fn loaded<W: Sink, T: TextStore, C: Clock, K: Shelf>(
+pub(crate) fn loaded<
+    W: Sink,
+    T: TextStore + Send + Drop,
+    C: Clock + Send + Drop,
+    K: Shelf + Send + Drop,
+>(
     alloc: Global,
     count: u32,
     words: &Words,
@@ -33,6 +39,7 @@ pub(crate) fn loaded<W: Sink, T: TextStore, C: Clock, K: Shelf>(
     ensures unwritten { result.status ≢ status.Done → result.status ≢ status.WriteFault → output.new ≡ output.old }
     ensures text { (asked_by words.now).text ≡ None → result.text ≡ text }
     ensures clock { (asked_by words.now).clock ≡ false → result.clock ≡ clock }
+    ensures relayed { (asked_by words.now).relay ≡ true → result.clock ≡ clock }
     ensures library { (asked_by words.now).library ≡ None → result.shelves ≡ shelves }
 {
     let bundle = match load(alloc, count) {
@@ -44,7 +51,7 @@ pub(crate) fn loaded<W: Sink, T: TextStore, C: Clock, K: Shelf>(
         text,
         clock,
         shelves,
-    } = run_as_asked(alloc, words, bundle, text, clock, shelves);
+    } = run_as_asked(alloc, &InTurns, words, bundle, text, clock, shelves);
     let written = summary_in(alloc, count, outcome);
     match written {
         Ok(written) => ended(write(&written, output), text, clock, shelves),

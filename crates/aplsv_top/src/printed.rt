@@ -1,6 +1,8 @@
 ghost use Rattle.aplsv_top.specs.Printed.{OutputsArePrinted, OwnOutputsAreTheBundles, PrintedAccessesFollowTheTable, PrintedJournalsAnswerFullPastTheirLimit, PrintedTranscriptsAreEvaluatedAlone, PrintedUsesGiveTheLastValue, WhatIsWrittenIsPrinted};
+ghost use Rattle.aplsv_top.specs.Relayed.{RelayedTextsArrive};
 
 use apl_io::{Clock, Shelf, TextStore};
+use aux_relay::{replies_are_relayed, what_is_taken_was_given};
 use journal_laws::{
     accesses_follow_the_table, full_journals_take_leaves_alone, transcripts_are_evaluated_alone,
     uses_give_the_last_value,
@@ -13,11 +15,20 @@ pub fn outputs_are_printed<T: TextStore, C: Clock, K: Shelf>()
     ensures written { WhatIsWrittenIsPrinted C.told C.faults T.told T.faults K.told K.faults }
 {}
 
-/// Where no word names a device, what is written is the output of a run over the bundle's files and readings and empty shelves,
+/// Where no word names a device, component files or a relay, what is written is the output of a run over the bundle's files and readings and empty shelves,
 /// of which there is one (`a_bundle_has_one_output`). The call does nothing.
 pub fn own_outputs_are_the_bundles<T: TextStore, C: Clock, K: Shelf>()
     ensures { OwnOutputsAreTheBundles C.told C.faults T.told T.faults K.told K.faults }
 {}
+
+/// With `--relay` each reply of party 10 in the journal of an output is the relay's after the replies before it, so that what a
+/// user took of another is a front part of what that one gave, in its order, each text once. The call does nothing.
+pub fn relayed_texts_arrive<T: TextStore, C: Clock, K: Shelf>()
+    ensures { RelayedTextsArrive C.told C.faults T.told T.faults K.told K.faults }
+{
+    replies_are_relayed();
+    what_is_taken_was_given();
+}
 
 /// Each set and each use of an offered name in a journal that is printed is granted exactly where the access table allows it
 /// over the entries before it, and else refused by the element that the table names. The call does nothing.

@@ -1,15 +1,14 @@
-ghost use Rattle.std.specs.Prelude.{◌≡◌, ◌≤◌, false, None, OnOk, Some, length, vec_len};
+ghost use Rattle.std.specs.Prelude.{◌≡◌, false, None, Some, true, vec_len};
 ghost use Rattle.apl_arrays.specs.Limits.{most_users};
 ghost use Rattle.apl_session.specs.Ended.{IfWhole};
-ghost use Rattle.aplsv_replay.specs.Replayed.{IsDeviceRun};
 ghost use Rattle.aplsv_words.specs.Meaning.{asked_by};
-ghost use Rattle.aplsv_top.specs.Headline.{AreToldTheirPlace, ClockedRun, NamedRun, ShelvedRun};
+ghost use Rattle.aplsv_top.specs.Headline.{NamedRun};
 
-use crate::memory::{memory_clock, memory_shelves, memory_text};
+use crate::behind_twenty::{over_bundle_text, over_text};
+use crate::driver::Driver;
 use apl_arrays::WantOfMemory;
-use apl_io::{Clock, Devices, Shelf, TextStore};
-use apl_session::{Ended, FinishedRun};
-use aplsv_replay::replay;
+use apl_io::{Clock, Shelf, TextStore};
+use apl_session::Ended;
 use aplsv_words::Words;
 use bundle_text::Bundle;
 use std::alloc::Global;
@@ -24,9 +23,17 @@ pub(crate) struct Ran<T, C, K> {
 }
 
 /// Runs a bundle over the devices that the words name; in the place of each other one is a new one in memory: the bundle's
-/// files, its readings, and an empty shelf for each user. What no word names is not called. It takes memory for the run.
-pub(crate) fn run_as_asked<T: TextStore, C: Clock, K: Shelf>(
+/// files, its readings, and an empty shelf for each user. Behind 20 stand component files in the text store, where words ask for
+/// them, and behind 10 a relay in the place of a clock. What no word names is not called, and no clock is where there is a relay.
+/// It takes memory for the run.
+pub(crate) fn run_as_asked<
+    D: Driver,
+    T: TextStore + Send + Drop,
+    C: Clock + Send + Drop,
+    K: Shelf + Send + Drop,
+>(
     alloc: Global,
+    driver: &D,
     words: &Words,
     bundle: Bundle,
     text: T,
@@ -34,22 +41,29 @@ pub(crate) fn run_as_asked<T: TextStore, C: Clock, K: Shelf>(
     shelves: Vec<K>,
 ) -> Ran<T, C, K>
     requires shelves { vec_len shelves ≡ most_users }
-    ensures run { IfWhole result.ended (λ transcripts journal. NamedRun C.told C.faults T.told T.faults K.told K.faults (asked_by words.now).text (asked_by words.now).clock (asked_by words.now).library
+    ensures run { IfWhole result.ended (λ transcripts journal. NamedRun D.in_turns C.told C.faults T.told T.faults K.told K.faults (asked_by words.now).text (asked_by words.now).components (asked_by words.now).relay (asked_by words.now).clock (asked_by words.now).library
         bundle journal transcripts clock result.clock text result.text
         shelves.items result.shelves.items) }
     ensures text { (asked_by words.now).text ≡ None → result.text ≡ text }
     ensures clock { (asked_by words.now).clock ≡ false → result.clock ≡ clock }
+    ensures relayed { (asked_by words.now).relay ≡ true → result.clock ≡ clock }
     ensures library { (asked_by words.now).library ≡ None → result.shelves ≡ shelves }
 {
     match words.text {
-        Some(place) => over_placed_text(alloc, place, words, bundle, text, clock, shelves),
-        None => over_bundle_text(alloc, words, bundle, text, clock, shelves),
+        Some(place) => over_placed_text(alloc, driver, place, words, bundle, text, clock, shelves),
+        None => over_bundle_text(alloc, driver, words, bundle, text, clock, shelves),
     }
 }
 
 // Runs it over the text store that was handed in, which is told its place.
-fn over_placed_text<T: TextStore, C: Clock, K: Shelf>(
+fn over_placed_text<
+    D: Driver,
+    T: TextStore + Send + Drop,
+    C: Clock + Send + Drop,
+    K: Shelf + Send + Drop,
+>(
     alloc: Global,
+    driver: &D,
     place: &str,
     words: &Words,
     bundle: Bundle,
@@ -58,262 +72,21 @@ fn over_placed_text<T: TextStore, C: Clock, K: Shelf>(
     shelves: Vec<K>,
 ) -> Ran<T, C, K>
     requires shelves { vec_len shelves ≡ most_users }
-    ensures run { IfWhole result.ended (λ transcripts journal. NamedRun C.told C.faults T.told T.faults K.told K.faults (Some place.now) (asked_by words.now).clock (asked_by words.now).library
+    ensures run { IfWhole result.ended (λ transcripts journal. NamedRun D.in_turns C.told C.faults T.told T.faults K.told K.faults (Some place.now) (asked_by words.now).components (asked_by words.now).relay (asked_by words.now).clock (asked_by words.now).library
         bundle journal transcripts clock result.clock text result.text
         shelves.items result.shelves.items) }
     ensures clock { (asked_by words.now).clock ≡ false → result.clock ≡ clock }
+    ensures relayed { (asked_by words.now).relay ≡ true → result.clock ≡ clock }
     ensures library { (asked_by words.now).library ≡ None → result.shelves ≡ shelves }
 {
     let mut text = text;
     match text.set_place(place) {
-        Ok(()) => over_text(alloc, words, bundle, text, clock, shelves),
+        Ok(()) => over_text(alloc, driver, words, bundle, text, clock, shelves),
         Err(WantOfMemory) => Ran {
             ended: Ended::WantOfMemory,
             text,
             clock,
             shelves,
         },
-    }
-}
-
-// Runs it over its own files.
-fn over_bundle_text<T: TextStore, C: Clock, K: Shelf>(
-    alloc: Global,
-    words: &Words,
-    bundle: Bundle,
-    text: T,
-    clock: C,
-    shelves: Vec<K>,
-) -> Ran<T, C, K>
-    requires shelves { vec_len shelves ≡ most_users }
-    ensures run { IfWhole result.ended (λ transcripts journal. NamedRun C.told C.faults T.told T.faults K.told K.faults None (asked_by words.now).clock (asked_by words.now).library
-        bundle journal transcripts clock result.clock text result.text
-        shelves.items result.shelves.items) }
-    ensures text { result.text ≡ text }
-    ensures clock { (asked_by words.now).clock ≡ false → result.clock ≡ clock }
-    ensures library { (asked_by words.now).library ≡ None → result.shelves ≡ shelves }
-{
-    let files = match memory_text(alloc, &bundle) {
-        Ok(files) => files,
-        Err(WantOfMemory) => {
-            return Ran {
-                ended: Ended::WantOfMemory,
-                text,
-                clock,
-                shelves,
-            };
-        }
-    };
-    let Ran {
-        ended,
-        text: _files,
-        clock,
-        shelves,
-    } = over_text(alloc, words, bundle, files, clock, shelves);
-    Ran {
-        ended,
-        text,
-        clock,
-        shelves,
-    }
-}
-
-// Runs it over a text store, and the clock that the words ask for.
-fn over_text<T: TextStore, C: Clock, K: Shelf>(
-    alloc: Global,
-    words: &Words,
-    bundle: Bundle,
-    text: T,
-    clock: C,
-    shelves: Vec<K>,
-) -> Ran<T, C, K>
-    requires shelves { vec_len shelves ≡ most_users }
-    ensures run { IfWhole result.ended (λ transcripts journal. ClockedRun C.told C.faults T.told T.faults K.told K.faults (asked_by words.now).clock (asked_by words.now).library
-        bundle journal transcripts clock result.clock text result.text
-        shelves.items result.shelves.items) }
-    ensures clock { (asked_by words.now).clock ≡ false → result.clock ≡ clock }
-    ensures library { (asked_by words.now).library ≡ None → result.shelves ≡ shelves }
-{
-    if words.clock {
-        over_clock(alloc, words, bundle, text, clock, shelves)
-    } else {
-        over_bundle_clock(alloc, words, bundle, text, clock, shelves)
-    }
-}
-
-// Runs it over its own readings.
-fn over_bundle_clock<T: TextStore, C: Clock, K: Shelf>(
-    alloc: Global,
-    words: &Words,
-    bundle: Bundle,
-    text: T,
-    clock: C,
-    shelves: Vec<K>,
-) -> Ran<T, C, K>
-    requires shelves { vec_len shelves ≡ most_users }
-    ensures run { IfWhole result.ended (λ transcripts journal. ClockedRun C.told C.faults T.told T.faults K.told K.faults false (asked_by words.now).library
-        bundle journal transcripts clock result.clock text result.text
-        shelves.items result.shelves.items) }
-    ensures clock { result.clock ≡ clock }
-    ensures library { (asked_by words.now).library ≡ None → result.shelves ≡ shelves }
-{
-    let readings = match memory_clock(alloc, &bundle) {
-        Ok(readings) => readings,
-        Err(WantOfMemory) => {
-            return Ran {
-                ended: Ended::WantOfMemory,
-                text,
-                clock,
-                shelves,
-            };
-        }
-    };
-    let Ran {
-        ended,
-        text,
-        clock: _readings,
-        shelves,
-    } = over_clock(alloc, words, bundle, text, readings, shelves);
-    Ran {
-        ended,
-        text,
-        clock,
-        shelves,
-    }
-}
-
-// Runs it over a text store and a clock, and the shelves that the words ask for.
-fn over_clock<T: TextStore, C: Clock, K: Shelf>(
-    alloc: Global,
-    words: &Words,
-    bundle: Bundle,
-    text: T,
-    clock: C,
-    shelves: Vec<K>,
-) -> Ran<T, C, K>
-    requires shelves { vec_len shelves ≡ most_users }
-    ensures run { IfWhole result.ended (λ transcripts journal. ShelvedRun C.told C.faults T.told T.faults K.told K.faults (asked_by words.now).library
-        bundle journal transcripts clock result.clock text result.text
-        shelves.items result.shelves.items) }
-    ensures library { (asked_by words.now).library ≡ None → result.shelves ≡ shelves }
-{
-    match words.library {
-        Some(place) => over_placed_shelves(alloc, place, bundle, text, clock, shelves),
-        None => over_empty_shelves(alloc, bundle, text, clock, shelves),
-    }
-}
-
-// Runs it over the shelves that were handed in; each user's is told its place.
-fn over_placed_shelves<T: TextStore, C: Clock, K: Shelf>(
-    alloc: Global,
-    place: &str,
-    bundle: Bundle,
-    text: T,
-    clock: C,
-    shelves: Vec<K>,
-) -> Ran<T, C, K>
-    requires shelves { vec_len shelves ≡ most_users }
-    ensures run { IfWhole result.ended (λ transcripts journal. ShelvedRun C.told C.faults T.told T.faults K.told K.faults (Some place.now)
-        bundle journal transcripts clock result.clock text result.text
-        shelves.items result.shelves.items) }
-{
-    let mut shelves = shelves;
-    match place_shelves(&mut shelves, bundle.users().len(), place) {
-        Ok(()) => run_over(alloc, bundle, text, clock, shelves),
-        Err(WantOfMemory) => Ran {
-            ended: Ended::WantOfMemory,
-            text,
-            clock,
-            shelves,
-        },
-    }
-}
-
-// Tells so many shelves their place.
-fn place_shelves<K: Shelf>(
-    shelves: &mut Vec<K>,
-    count: usize,
-    place: &str,
-) -> Result<(), WantOfMemory>
-    requires { count ≤ vec_len shelves.old }
-    ensures placed { OnOk result (AreToldTheirPlace K.told K.faults place.now count shelves.old.items shelves.new.items) }
-    ensures many { vec_len shelves.new ≡ vec_len shelves.old }
-{
-    for at in 0..count {
-        shelves[at].set_place(place)?;
-    }
-    Ok(())
-}
-
-// Runs it over a new shelf for each user.
-fn over_empty_shelves<T: TextStore, C: Clock, K: Shelf>(
-    alloc: Global,
-    bundle: Bundle,
-    text: T,
-    clock: C,
-    shelves: Vec<K>,
-) -> Ran<T, C, K>
-    ensures run { IfWhole result.ended (λ transcripts journal. ShelvedRun C.told C.faults T.told T.faults K.told K.faults None
-        bundle journal transcripts clock result.clock text result.text
-        shelves.items result.shelves.items) }
-    ensures library { result.shelves ≡ shelves }
-{
-    let made = match memory_shelves(alloc, &bundle) {
-        Ok(made) => made,
-        Err(WantOfMemory) => {
-            return Ran {
-                ended: Ended::WantOfMemory,
-                text,
-                clock,
-                shelves,
-            };
-        }
-    };
-    let Ran {
-        ended,
-        text,
-        clock,
-        shelves: _made,
-    } = run_over(alloc, bundle, text, clock, made);
-    Ran {
-        ended,
-        text,
-        clock,
-        shelves,
-    }
-}
-
-// Runs it over these devices.
-fn run_over<T: TextStore, C: Clock, K: Shelf>(
-    alloc: Global,
-    bundle: Bundle,
-    text: T,
-    clock: C,
-    shelves: Vec<K>,
-) -> Ran<T, C, K>
-    requires { length bundle.users ≤ vec_len shelves }
-    ensures { IfWhole result.ended (λ transcripts journal. IsDeviceRun C.told C.faults T.told T.faults K.told K.faults
-        bundle journal transcripts clock result.clock text result.text
-        shelves.items result.shelves.items) }
-{
-    let FinishedRun { ended, devices } = replay(
-        alloc,
-        bundle,
-        Devices {
-            text,
-            clock,
-            shelves,
-        },
-    );
-    let Devices {
-        text,
-        clock,
-        shelves,
-    } = devices;
-    Ran {
-        ended,
-        text,
-        clock,
-        shelves,
     }
 }

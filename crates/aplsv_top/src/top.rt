@@ -1,4 +1,4 @@
-ghost use Rattle.std.specs.Prelude.{◌≡◌, ◌≢◌, ◌≤◌, ◌⊎◌, ◌↔◌, [], None, Some, false, length, map, string_bytes, vec_len};
+ghost use Rattle.std.specs.Prelude.{◌≡◌, ◌≢◌, ◌≤◌, ◌⊎◌, ◌↔◌, [], None, Some, false, length, map, string_bytes, true, vec_len};
 ghost use Rattle.apl_arrays.specs.Limits.{most_input_bytes, most_users};
 ghost use Rattle.apl_io.specs.Faults.{Rose};
 ghost use Rattle.apl_io.specs.Whole.{AreAtMost};
@@ -8,6 +8,7 @@ ghost use Rattle.aplsv_top.specs.Headline.{IsOutputAs};
 ghost use Rattle.aplsv_top.specs.Words.{AskReplay, IsConclusion};
 ghost use Rattle.aplsv_top.specs.declared.status.Status.TheVariants as status;
 
+use crate::driver::{Driver, InTurns};
 use crate::output::output_in;
 use crate::run::{Ran, run_as_asked};
 use crate::status::{Finish, Status};
@@ -25,11 +26,18 @@ const INPUT_LIMIT: usize = 4_194_304;
 /// use is answered by the rules over the entries before it, and each transcript is its user's lines evaluated alone with
 /// the answers that the journal gives that user and the replies of its shelf. The text store, the clock and the 32 shelves
 /// are those handed in where `--text`, `--clock` and `--library` name them; else the files and the readings are the bundle's,
-/// and each user has an empty shelf. The k-th user has the k-th shelf. Words that have no meaning, or lack `--replay`, are
-/// `Usage`. It returns for every source and sink. What no word names is not called, and comes back as it came; the store and
+/// and each user has an empty shelf. The k-th user has the k-th shelf. With `--components` party 20 keeps files of arrays in that
+/// store; with `--relay` party 10 carries texts between users, and no clock is called. Words that have no meaning, or lack
+/// `--replay`, are `Usage`. It returns for every source and sink. What no word names is not called, and comes back as it came; the store and
 /// the shelves of the bundle's users are told the place that a word names once a bundle was read, and the shelves behind
 /// these are left. Nothing is written unless a bundle was run, where memory runs out too.
-pub fn aplsv_replay_words<S: Source, W: Sink, T: TextStore, C: Clock, K: Shelf>(
+pub fn aplsv_replay_words<
+    S: Source,
+    W: Sink,
+    T: TextStore + Send + Drop,
+    C: Clock + Send + Drop,
+    K: Shelf + Send + Drop,
+>(
     alloc: Global,
     words: &[String],
     input: &mut S,
@@ -59,6 +67,7 @@ pub fn aplsv_replay_words<S: Source, W: Sink, T: TextStore, C: Clock, K: Shelf>(
     ensures unnamed { ¬ AskReplay (map string_bytes words.now) → (result.text ≡ text) × (result.clock ≡ clock) × (result.shelves ≡ shelves) }
     ensures text { (asked : Asked) → Means (map string_bytes words.now) asked → asked.text ≡ None → result.text ≡ text }
     ensures clock { (asked : Asked) → Means (map string_bytes words.now) asked → asked.clock ≡ false → result.clock ≡ clock }
+    ensures relayed { (asked : Asked) → Means (map string_bytes words.now) asked → asked.relay ≡ true → result.clock ≡ clock }
     ensures library { (asked : Asked) → Means (map string_bytes words.now) asked → asked.library ≡ None → result.shelves ≡ shelves }
     ensures devices { result.status ≢ status.Done → result.status ≢ status.WriteFault → result.status ≢ status.WantOfMemory
         → (result.text ≡ text) × (result.clock ≡ clock) × (result.shelves ≡ shelves) }
@@ -82,9 +91,14 @@ pub(crate) fn ended<T, C, K>(status: Status, text: T, clock: C, shelves: Vec<K>)
     }
 }
 
-/// What words that have a meaning come to, where they ask for a replay; else they are `Usage`. It takes memory for the bundle,
-/// the run and the output.
-pub(crate) fn as_asked<S: Source, W: Sink, T: TextStore, C: Clock, K: Shelf>(
+// What words that have a meaning come to, where they ask for a replay; else they are `Usage`.
+fn as_asked<
+    S: Source,
+    W: Sink,
+    T: TextStore + Send + Drop,
+    C: Clock + Send + Drop,
+    K: Shelf + Send + Drop,
+>(
     alloc: Global,
     words: &Words,
     input: &mut S,
@@ -103,19 +117,30 @@ pub(crate) fn as_asked<S: Source, W: Sink, T: TextStore, C: Clock, K: Shelf>(
     ensures unnamed { (asked_by words.now).replay ≡ false → (result.text ≡ text) × (result.clock ≡ clock) × (result.shelves ≡ shelves) }
     ensures text { (asked_by words.now).text ≡ None → result.text ≡ text }
     ensures clock { (asked_by words.now).clock ≡ false → result.clock ≡ clock }
+    ensures relayed { (asked_by words.now).relay ≡ true → result.clock ≡ clock }
     ensures library { (asked_by words.now).library ≡ None → result.shelves ≡ shelves }
     ensures devices { result.status ≢ status.Done → result.status ≢ status.WriteFault → result.status ≢ status.WantOfMemory
         → (result.text ≡ text) × (result.clock ≡ clock) × (result.shelves ≡ shelves) }
 {
     if words.replay {
-        run(alloc, words, input, output, text, clock, shelves)
+        run(alloc, &InTurns, words, input, output, text, clock, shelves)
     } else {
         ended(Status::Usage, text, clock, shelves)
     }
 }
 
-fn run<S: Source, W: Sink, T: TextStore, C: Clock, K: Shelf>(
+/// What words come to that ask for a run by this driver of a bundle that is read. It takes memory for the bundle, the run and the
+/// output.
+pub(crate) fn run<
+    D: Driver,
+    S: Source,
+    W: Sink,
+    T: TextStore + Send + Drop,
+    C: Clock + Send + Drop,
+    K: Shelf + Send + Drop,
+>(
     alloc: Global,
+    driver: &D,
     words: &Words,
     input: &mut S,
     output: &mut W,
@@ -123,6 +148,7 @@ fn run<S: Source, W: Sink, T: TextStore, C: Clock, K: Shelf>(
     clock: C,
     shelves: Vec<K>,
 ) -> Finish<T, C, K>
+    requires driver { D.in_turns ≡ (asked_by words.now).replay }
     requires shelves { vec_len shelves ≡ most_users }
     ensures causes { HasCause (IsOutputAs C.told C.faults T.told T.faults K.told K.faults (asked_by words.now) clock result.clock text result.text shelves.items result.shelves.items) result.status
         (record { bytes = S.left input.old; faults = S.faults input.old }) (record { bytes = S.left input.new; faults = S.faults input.new })
@@ -131,12 +157,22 @@ fn run<S: Source, W: Sink, T: TextStore, C: Clock, K: Shelf>(
     ensures unwritten { result.status ≢ status.Done → result.status ≢ status.WriteFault → output.new ≡ output.old }
     ensures text { (asked_by words.now).text ≡ None → result.text ≡ text }
     ensures clock { (asked_by words.now).clock ≡ false → result.clock ≡ clock }
+    ensures relayed { (asked_by words.now).relay ≡ true → result.clock ≡ clock }
     ensures library { (asked_by words.now).library ≡ None → result.shelves ≡ shelves }
     ensures devices { result.status ≢ status.Done → result.status ≢ status.WriteFault → result.status ≢ status.WantOfMemory
         → (result.text ≡ text) × (result.clock ≡ clock) × (result.shelves ≡ shelves) }
 {
     match read_all(alloc, input, INPUT_LIMIT) {
-        Ok(bytes) => answer(alloc, words, bytes.as_slice(), output, text, clock, shelves),
+        Ok(bytes) => answer(
+            alloc,
+            driver,
+            words,
+            bytes.as_slice(),
+            output,
+            text,
+            clock,
+            shelves,
+        ),
         Err(ReadRefused::ReadFault) => ended(Status::ReadFault, text, clock, shelves),
         Err(ReadRefused::TooLong) => ended(Status::TooLong, text, clock, shelves),
         Err(ReadRefused::WantOfMemory) => ended(Status::WantOfMemory, text, clock, shelves),
@@ -144,8 +180,15 @@ fn run<S: Source, W: Sink, T: TextStore, C: Clock, K: Shelf>(
 }
 
 // What becomes of bytes that were all read: they are the whole of a source that has no faults.
-fn answer<W: Sink, T: TextStore, C: Clock, K: Shelf>(
+fn answer<
+    D: Driver,
+    W: Sink,
+    T: TextStore + Send + Drop,
+    C: Clock + Send + Drop,
+    K: Shelf + Send + Drop,
+>(
     alloc: Global,
+    driver: &D,
     words: &Words,
     bytes: &[u8],
     output: &mut W,
@@ -154,6 +197,7 @@ fn answer<W: Sink, T: TextStore, C: Clock, K: Shelf>(
     shelves: Vec<K>,
 ) -> Finish<T, C, K>
     requires few { length bytes.now ≤ most_input_bytes }
+    requires driver { D.in_turns ≡ (asked_by words.now).replay }
     requires shelves { vec_len shelves ≡ most_users }
     ensures causes { HasCause (IsOutputAs C.told C.faults T.told T.faults K.told K.faults (asked_by words.now) clock result.clock text result.text shelves.items result.shelves.items) result.status
         (record { bytes = Some bytes.now; faults = 0 }) (record { bytes = Some []; faults = 0 })
@@ -162,6 +206,7 @@ fn answer<W: Sink, T: TextStore, C: Clock, K: Shelf>(
     ensures unwritten { result.status ≢ status.Done → result.status ≢ status.WriteFault → output.new ≡ output.old }
     ensures text { (asked_by words.now).text ≡ None → result.text ≡ text }
     ensures clock { (asked_by words.now).clock ≡ false → result.clock ≡ clock }
+    ensures relayed { (asked_by words.now).relay ≡ true → result.clock ≡ clock }
     ensures library { (asked_by words.now).library ≡ None → result.shelves ≡ shelves }
     ensures devices { result.status ≢ status.Done → result.status ≢ status.WriteFault → result.status ≢ status.WantOfMemory
         → (result.text ≡ text) × (result.clock ≡ clock) × (result.shelves ≡ shelves) }
@@ -180,7 +225,7 @@ fn answer<W: Sink, T: TextStore, C: Clock, K: Shelf>(
         text,
         clock,
         shelves,
-    } = run_as_asked(alloc, words, bundle, text, clock, shelves);
+    } = run_as_asked(alloc, driver, words, bundle, text, clock, shelves);
     let written = output_in(alloc, outcome);
     match written {
         Ok(written) => ended(write(&written, output), text, clock, shelves),

@@ -280,33 +280,43 @@ spelled_are_taken settings texts spelled fine = free_is_taken texts (spelled_are
 is_simple_table : is_simple (command_of table) ≡ true
 is_simple_table = refl
 
-abbrev says : Bool → Option Text → Option Text → Bool → Option Text → Said
-says replay library text clock load = record { replay = replay; library = library; text = text; clock = clock; load = load }
+abbrev says : Bool → Option Text → Option Text → Option Text → Bool → Option Text → Bool → Bool → Said
+says replay workers library text clock load components relay =
+    record { replay = replay; workers = workers; library = library; text = text; clock = clock; load = load; components = components; relay = relay }
 
-says_alike : (a b : Bool) (c d e f : Option Text) (g h : Bool) (k l : Option Text) → a ≡ b → c ≡ d → e ≡ f → g ≡ h → k ≡ l → says a c e g k ≡ says b d f h l
-says_alike a b c d e f g h k l p q r s t = λ i. says (p i) (q i) (r i) (s i) (t i)
+says_alike : (a b : Bool) (one other c d e f : Option Text) (g h : Bool) (k l : Option Text) (m n v w : Bool) → a ≡ b → one ≡ other → c ≡ d → e ≡ f → g ≡ h → k ≡ l → m ≡ n → v ≡ w → says a one c e g k m v ≡ says b other d f h l n w
+says_alike a b one other c d e f g h k l m n v w p o q r s t x y = λ i. says (p i) (o i) (q i) (r i) (s i) (t i) (x i) (y i)
 
 -- what is read is what the settings say
 pub read_is_said : (m : ArgMatches) (written : Written) (texts : List Text) (settings : List Setting) → HasMatchesOf (command_of table) texts m → Spell settings texts → AreFine table settings
     → IsFlagOf (one_text (found_of m) (codes "replay")) written.replay
+    → (said_in written).workers ≡ first_value (found_of m) (codes "workers")
     → (said_in written).library ≡ first_value (found_of m) (codes "library")
     → (said_in written).text ≡ first_value (found_of m) (codes "text")
     → IsFlagOf (one_text (found_of m) (codes "clock")) written.clock
     → (said_in written).load ≡ first_value (found_of m) (codes "load")
+    → IsFlagOf (one_text (found_of m) (codes "components")) written.components
+    → IsFlagOf (one_text (found_of m) (codes "relay")) written.relay
     → said_by settings ≡ said_in written
-read_is_said m written texts settings has spelled fine replay library text clock load =
+read_is_said m written texts settings has spelled fine replay workers library text clock load components relay =
     let rows : rows_of (found_of m) ≡ fold with_default (map row_for settings) (arguments table) = (has is_simple_table).0 ∙ spelled_are_told settings texts spelled fine in
     let one : (name : Text) → one_text (found_of m) name ≡ one_of name (told table settings fine name) = λ name. one_text-rows (found_of m) name ∙ ap (one_of name) rows in
     let first : (name : Text) → first_value (found_of m) name ≡ first_of name (told table settings fine name) = λ name. first_value-rows (found_of m) name ∙ ap (first_of name) rows in
     let e_replay : written.replay ≡ has_setting (codes "replay") settings =
     flag_is table settings fine (codes "replay") refl written.replay (subst (λ (o : Option Text). IsFlagOf o written.replay) (one (codes "replay")) replay) in
+    let e_workers : (said_in written).workers ≡ value_written_for (codes "workers") settings = workers ∙ (first (codes "workers") ∙ value_is table settings fine (codes "workers") refl refl) in
     let e_library : (said_in written).library ≡ value_written_for (codes "library") settings = library ∙ (first (codes "library") ∙ value_is table settings fine (codes "library") refl refl) in
     let e_text : (said_in written).text ≡ value_written_for (codes "text") settings = text ∙ (first (codes "text") ∙ value_is table settings fine (codes "text") refl refl) in
     let e_clock : written.clock ≡ has_setting (codes "clock") settings =
     flag_is table settings fine (codes "clock") refl written.clock (subst (λ (o : Option Text). IsFlagOf o written.clock) (one (codes "clock")) clock) in
     let e_load : (said_in written).load ≡ value_written_for (codes "load") settings = load ∙ (first (codes "load") ∙ value_is table settings fine (codes "load") refl refl) in
-    sym (says_alike written.replay (has_setting (codes "replay") settings) (said_in written).library (value_written_for (codes "library") settings) (said_in written).text (value_written_for (codes "text") settings)
-    written.clock (has_setting (codes "clock") settings) (said_in written).load (value_written_for (codes "load") settings) e_replay e_library e_text e_clock e_load)
+    let e_components : written.components ≡ has_setting (codes "components") settings =
+    flag_is table settings fine (codes "components") refl written.components (subst (λ (o : Option Text). IsFlagOf o written.components) (one (codes "components")) components) in
+    let e_relay : written.relay ≡ has_setting (codes "relay") settings =
+    flag_is table settings fine (codes "relay") refl written.relay (subst (λ (o : Option Text). IsFlagOf o written.relay) (one (codes "relay")) relay) in
+    sym (says_alike written.replay (has_setting (codes "replay") settings) (said_in written).workers (value_written_for (codes "workers") settings) (said_in written).library (value_written_for (codes "library") settings) (said_in written).text (value_written_for (codes "text") settings)
+    written.clock (has_setting (codes "clock") settings) (said_in written).load (value_written_for (codes "load") settings) written.components (has_setting (codes "components") settings) written.relay (has_setting (codes "relay") settings)
+    e_replay e_workers e_library e_text e_clock e_load e_components e_relay)
 
 -- words that spell two lists of settings say the same
 pub one_meaning : (texts : List Text) (settings others : List Setting) → Spell settings texts → AreFine table settings → Spell others texts → AreFine table others → said_by settings ≡ said_by others
@@ -317,7 +327,9 @@ one_meaning texts settings others spelled fine spells good =
     (subst (λ (rs : List Row). TellsFlag name rs (has_setting name others)) rows (flag_tells table others good name word)) in
     let values : (name : Text) → word_of table name ≡ Some (word_with_value name) → list_all (takes_if_named name) table ≡ true → value_written_for name settings ≡ value_written_for name others = λ name word fit.
     sym (value_is table settings fine name word fit) ∙ (ap (first_of name) (sym rows) ∙ value_is table others good name word fit) in
-    says_alike (has_setting (codes "replay") settings) (has_setting (codes "replay") others) (value_written_for (codes "library") settings) (value_written_for (codes "library") others)
+    says_alike (has_setting (codes "replay") settings) (has_setting (codes "replay") others) (value_written_for (codes "workers") settings) (value_written_for (codes "workers") others) (value_written_for (codes "library") settings) (value_written_for (codes "library") others)
     (value_written_for (codes "text") settings) (value_written_for (codes "text") others) (has_setting (codes "clock") settings) (has_setting (codes "clock") others)
     (value_written_for (codes "load") settings) (value_written_for (codes "load") others)
-    (flags (codes "replay") refl) (values (codes "library") refl refl) (values (codes "text") refl refl) (flags (codes "clock") refl) (values (codes "load") refl refl)
+    (has_setting (codes "components") settings) (has_setting (codes "components") others) (has_setting (codes "relay") settings) (has_setting (codes "relay") others)
+    (flags (codes "replay") refl) (values (codes "workers") refl refl) (values (codes "library") refl refl) (values (codes "text") refl refl) (flags (codes "clock") refl) (values (codes "load") refl refl)
+    (flags (codes "components") refl) (flags (codes "relay") refl)

@@ -35,9 +35,10 @@ module _ (app : App) (is : app ≡ command_of table) (texts : List Text) where
   simple = ap is_simple_and_free is ∙ table_is_simple
 
   module _ (m : ArgMatches) (written : Written) (fit : list_any is_stray texts ≡ false) (has : HasMatchesOf app texts m) (free : is_simple_and_free app ≡ true → fault_of app texts ≡ [])
-      (replay : IsFlagOf (one_text (found_of m) (codes "replay")) written.replay) (library : (said_in written).library ≡ first_value (found_of m) (codes "library"))
+      (replay : IsFlagOf (one_text (found_of m) (codes "replay")) written.replay) (workers : (said_in written).workers ≡ first_value (found_of m) (codes "workers")) (library : (said_in written).library ≡ first_value (found_of m) (codes "library"))
       (text : (said_in written).text ≡ first_value (found_of m) (codes "text")) (clock : IsFlagOf (one_text (found_of m) (codes "clock")) written.clock)
-      (load : (said_in written).load ≡ first_value (found_of m) (codes "load")) where
+      (load : (said_in written).load ≡ first_value (found_of m) (codes "load"))
+      (components : IsFlagOf (one_text (found_of m) (codes "components")) written.components) (relay : IsFlagOf (one_text (found_of m) (codes "relay")) written.relay) where
     -- what is read of a parse is what the words say
     pub read_is_what_words_say : Say texts (said_in written)
     read_is_what_words_say =
@@ -47,7 +48,7 @@ module _ (app : App) (is : app ≡ command_of table) (texts : List Text) where
           settings = read.0;
           spelled = read.1;
           fine = read.2;
-          says = read_is_said m written texts read.0 (subst (λ (a : App). HasMatchesOf a texts m) is has) read.1 read.2 replay library text clock load;
+          says = read_is_said m written texts read.0 (subst (λ (a : App). HasMatchesOf a texts m) is has) read.1 read.2 replay workers library text clock load components relay;
         }
 
     pub read_is_all_that_is_said : (said : Said) → Say texts said → said_in written ≡ said

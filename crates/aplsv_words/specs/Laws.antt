@@ -12,7 +12,7 @@ MeanNothing words = (asked : Asked) → ¬ Means words asked
 
 -- nothing is asked for
 abbrev pub nothing : Asked
-nothing = record { replay = false; library = None; text = None; clock = false; load = None }
+nothing = record { replay = false; workers = None; library = None; text = None; clock = false; load = None; components = false; relay = false }
 
 -- a replay alone
 abbrev pub replay_alone : Asked

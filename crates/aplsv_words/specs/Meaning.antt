@@ -1,5 +1,5 @@
 -- What the words of a command line mean.
-use Rattle.std.specs.Prelude.{◌≡◌, ◌≤◌, ◌⊎◌, ◌==◌, ◌&&◌, ◌++◌, Bool, true, false, ℕ, List, [], ◌∷◌, Option, Some, None, find, is_some, length, nat_lt, codes, decimal, option_map}
+use Rattle.std.specs.Prelude.{◌≡◌, ◌≤◌, ◌⊎◌, ◌==◌, ◌&&◌, ◌||◌, ◌++◌, Bool, true, false, ℕ, List, [], ◌∷◌, Option, Some, None, find, is_some, length, nat_lt, codes, decimal, option_map}
 use Rattle.std.specs.List.{list_all, list_any}
 use Rattle.std.specs.Option.{option_and_then, option_map_or}
 use Rattle.std.specs.Str.{bytes_eq}
@@ -80,29 +80,38 @@ value_written_for name settings = option_and_then (λ setting. setting.value) (f
 -- what words say: a field for each word of the table, and a value as it was written
 pub record Said : Type 0 where
   pub replay : Bool
+  pub workers : Option Text
   pub library : Option Text
   pub text : Option Text
   pub clock : Bool
   pub load : Option Text
+  pub components : Bool
+  pub relay : Bool
 
 -- what was read
 abbrev pub said_in : Written → Said
 said_in written = record {
   replay = written.replay;
+  workers = option_map (λ count. count.now) written.workers;
   library = option_map (λ place. place.now) written.library;
   text = option_map (λ place. place.now) written.text;
   clock = written.clock;
   load = option_map (λ count. count.now) written.load;
+  components = written.components;
+  relay = written.relay;
 }
 
 -- what settings say
 abbrev pub said_by : List Setting → Said
 said_by settings = record {
   replay = has_setting (codes "replay") settings;
+  workers = value_written_for (codes "workers") settings;
   library = value_written_for (codes "library") settings;
   text = value_written_for (codes "text") settings;
   clock = has_setting (codes "clock") settings;
   load = value_written_for (codes "load") settings;
+  components = has_setting (codes "components") settings;
+  relay = has_setting (codes "relay") settings;
 }
 
 -- the words say this: they are settings of the table, in any order and each once
@@ -115,50 +124,63 @@ pub record Say (words : List Text) (said : Said) : Type 0 where
 -- what words ask for: a field for each word of the table
 pub record Asked : Type 0 where
   pub replay : Bool
+  pub workers : Option ℕ
   pub library : Option Text
   pub text : Option Text
   pub clock : Bool
   pub load : Option ℕ
+  pub components : Bool
+  pub relay : Bool
 
 -- what was understood
 abbrev pub asked_by : Words → Asked
 asked_by words = record {
   replay = words.replay;
+  workers = words.workers;
   library = option_map (λ place. place.now) words.library;
   text = option_map (λ place. place.now) words.text;
   clock = words.clock;
   load = words.load;
+  components = words.components;
+  relay = words.relay;
 }
 
--- the text is this count: its decimal digits, from 1 to 100,000, so without a sign and without a zero at the front
-pub record IsCount (text : Text) (n : ℕ) : Type 0 where
+-- the text is this count: its decimal digits, from 1 to a most, so without a sign and without a zero at the front
+pub record IsCount (most : ℕ) (text : Text) (n : ℕ) : Type 0 where
   pub digits : text ≡ decimal n
   pub some : 1 ≤ n
-  pub few : n ≤ 100000
+  pub few : n ≤ most
 
 -- it is none
-abbrev pub NoCount : Text → Type 0
-NoCount text = (n : ℕ) → ¬ IsCount text n
+abbrev pub NoCount : ℕ → Text → Type 0
+NoCount most text = (n : ℕ) → ¬ IsCount most text n
 
 -- a count is written where one is asked for, and else none
-abbrev pub CountsAs : Option Text → Option ℕ → Type 0
-CountsAs None None = Unit {0}
-CountsAs None (Some n) = ⊥
-CountsAs (Some text) None = ⊥
-CountsAs (Some text) (Some n) = IsCount text n
+abbrev pub CountsAs : ℕ → Option Text → Option ℕ → Type 0
+CountsAs most None None = Unit {0}
+CountsAs most None (Some n) = ⊥
+CountsAs most (Some text) None = ⊥
+CountsAs most (Some text) (Some n) = IsCount most text n
 
 -- nothing can be asked for by what was written
-abbrev pub NothingCounts : Option Text → Type 0
-NothingCounts written = (count : Option ℕ) → ¬ CountsAs written count
+abbrev pub NothingCounts : ℕ → Option Text → Type 0
+NothingCounts most written = (count : Option ℕ) → ¬ CountsAs most written count
 
--- what is said asks for this: the same of each word, a load by its count, and a replay and a load are not asked for together
+-- two of three hold
+abbrev pub two_of : Bool → Bool → Bool → Bool
+two_of first second third = (first && second) || (first && third) || (second && third)
+
+-- what is said asks for this: the same of each word, from 1 to 34 workers and a load of 1 to 100,000 by their counts, and no two of a replay, workers and a load together
 pub record AsksFor (said : Said) (asked : Asked) : Type 0 where
   pub replay : asked.replay ≡ said.replay
   pub library : asked.library ≡ said.library
   pub text : asked.text ≡ said.text
   pub clock : asked.clock ≡ said.clock
-  pub load : CountsAs said.load asked.load
-  pub single : (asked.replay && is_some asked.load) ≡ false
+  pub workers : CountsAs 34 said.workers asked.workers
+  pub load : CountsAs 100000 said.load asked.load
+  pub components : asked.components ≡ said.components
+  pub relay : asked.relay ≡ said.relay
+  pub single : two_of asked.replay (is_some asked.workers) (is_some asked.load) ≡ false
 
 -- the words mean this: they say what asks for it
 pub record Means (words : List Text) (asked : Asked) : Type 0 where

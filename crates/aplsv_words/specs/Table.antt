@@ -14,6 +14,6 @@ flag name = record { name = name; takes_value = false }
 abbrev pub word_with_value : List ℕ → Word
 word_with_value name = record { name = name; takes_value = true }
 
--- the table: --replay, --library DIR, --text DIR, --clock, --load N
+-- the table: --replay, --workers N, --library DIR, --text DIR, --clock, --load N, --components, --relay
 abbrev pub table : List Word
-table = flag (codes "replay") ∷ word_with_value (codes "library") ∷ word_with_value (codes "text") ∷ flag (codes "clock") ∷ word_with_value (codes "load") ∷ []
+table = flag (codes "replay") ∷ word_with_value (codes "workers") ∷ word_with_value (codes "library") ∷ word_with_value (codes "text") ∷ flag (codes "clock") ∷ word_with_value (codes "load") ∷ flag (codes "components") ∷ flag (codes "relay") ∷ []

@@ -53,10 +53,13 @@ fn command_line<'a>(alloc: Global) -> Result<Command<'a>, AllocError>
         .no_binary_name(true)
         .disable_help_flag(true);
     let with_replay = bare.arg(flag(alloc, "replay"))?;
-    let with_library = with_replay.arg(valued(alloc, "library"))?;
+    let with_workers = with_replay.arg(valued(alloc, "workers"))?;
+    let with_library = with_workers.arg(valued(alloc, "library"))?;
     let with_text = with_library.arg(valued(alloc, "text"))?;
     let with_clock = with_text.arg(flag(alloc, "clock"))?;
-    let whole = with_clock.arg(valued(alloc, "load"))?;
+    let with_load = with_clock.arg(valued(alloc, "load"))?;
+    let with_components = with_load.arg(flag(alloc, "components"))?;
+    let whole = with_components.arg(flag(alloc, "relay"))?;
     Ok(whole)
 }
 
@@ -81,17 +84,23 @@ fn valued<'a>(alloc: Global, name: &'a str) -> Arg<'a>
 // What a parse found.
 fn words_in<'a>(matches: ArgMatches<'a>) -> Written<'a>
     ensures replay { IsFlagOf (one_text (found_of matches.entry) (codes "replay")) result.replay }
+    ensures workers { option_map (λ count. count.now) result.workers ≡ first_value (found_of matches.entry) (codes "workers") }
     ensures library { option_map (λ place. place.now) result.library ≡ first_value (found_of matches.entry) (codes "library") }
     ensures text { option_map (λ place. place.now) result.text ≡ first_value (found_of matches.entry) (codes "text") }
     ensures clock { IsFlagOf (one_text (found_of matches.entry) (codes "clock")) result.clock }
     ensures load { option_map (λ count. count.now) result.load ≡ first_value (found_of matches.entry) (codes "load") }
+    ensures components { IsFlagOf (one_text (found_of matches.entry) (codes "components")) result.components }
+    ensures relay { IsFlagOf (one_text (found_of matches.entry) (codes "relay")) result.relay }
 {
     Written {
         replay: flag_in(&matches, "replay"),
+        workers: matches.get_str("workers"),
         library: matches.get_str("library"),
         text: matches.get_str("text"),
         clock: flag_in(&matches, "clock"),
         load: matches.get_str("load"),
+        components: flag_in(&matches, "components"),
+        relay: flag_in(&matches, "relay"),
     }
 }
 

@@ -8,9 +8,9 @@ pub fn words_have_one_meaning()
 {}
 
 /// Words at work: none; one; all, in another order and with values in both ways; a value that begins with a hyphen behind
-/// its `=`, and one that has another `=`; a load, of the most numbers too. And words that mean nothing: with a value that
-/// begins with a hyphen, is empty, or is not there; with one that is not taken, or is no count; twice; a replay beside a
-/// load; short, cut, bare, or none of the table. The call does nothing.
+/// its `=`, and one that has another `=`; workers, and a load, the most of them too; component files and a relay, alone and beside all else. And words that mean nothing: with a value that
+/// begins with a hyphen, is empty, or is not there; with one that is not taken, or is no count; twice; two of a replay, workers and
+/// a load; short, cut, bare, or none of the table. The call does nothing.
 pub fn worked_words()
     ensures none { Means [] nothing }
     ensures replay { Means (codes "--replay" ∷ []) replay_alone }
@@ -32,7 +32,14 @@ pub fn worked_words()
     ensures bare { MeanNothing (codes "--replay" ∷ codes "--" ∷ []) }
     ensures one_hyphen { MeanNothing (codes "-" ∷ []) }
     ensures help { MeanNothing (codes "--help" ∷ []) }
-    ensures workers { MeanNothing (codes "--workers" ∷ codes "2" ∷ []) }
+    ensures workers { Means (codes "--workers" ∷ codes "2" ∷ []) (record nothing { workers = Some 2 }) }
+    ensures workers_beside { Means (codes "--workers=34" ∷ codes "--clock" ∷ []) (record nothing { workers = Some 34; clock = true }) }
+    ensures workers_none { MeanNothing (codes "--workers" ∷ codes "0" ∷ []) }
+    ensures workers_past { MeanNothing (codes "--workers=35" ∷ []) }
+    ensures workers_zero { MeanNothing (codes "--workers" ∷ codes "07" ∷ []) }
+    ensures workers_missing { MeanNothing (codes "--workers" ∷ []) }
+    ensures workers_replayed { MeanNothing (codes "--workers" ∷ codes "2" ∷ codes "--replay" ∷ []) }
+    ensures workers_loaded { MeanNothing (codes "--workers" ∷ codes "2" ∷ codes "--load=5" ∷ []) }
     ensures load { Means (codes "--load" ∷ codes "5" ∷ []) (record nothing { load = Some 5 }) }
     ensures load_beside { Means (codes "--clock" ∷ codes "--load=100000" ∷ []) (record nothing { clock = true; load = Some 100000 }) }
     ensures load_of_none { MeanNothing (codes "--load" ∷ codes "0" ∷ []) }
@@ -41,5 +48,10 @@ pub fn worked_words()
     ensures load_plus { MeanNothing (codes "--load=+5" ∷ []) }
     ensures load_minus { MeanNothing (codes "--load=-5" ∷ []) }
     ensures load_twice { MeanNothing (codes "--load=5" ∷ codes "--load=5" ∷ []) }
+    ensures components { Means (codes "--replay" ∷ codes "--components" ∷ []) (record replay_alone { components = true }) }
+    ensures relay { Means (codes "--relay" ∷ codes "--replay" ∷ []) (record replay_alone { relay = true }) }
+    ensures both_beside { Means (codes "--relay" ∷ codes "--load=5" ∷ codes "--components" ∷ codes "--text=A" ∷ []) (record nothing { text = Some (codes "A"); load = Some 5; components = true; relay = true }) }
+    ensures components_untaken { MeanNothing (codes "--components=A" ∷ []) }
+    ensures relay_twice { MeanNothing (codes "--relay" ∷ codes "--replay" ∷ codes "--relay" ∷ []) }
     ensures load_replayed { MeanNothing (codes "--load" ∷ codes "5" ∷ codes "--replay" ∷ []) }
 {}

@@ -7,6 +7,8 @@ use std::fmt;
 pub struct Words<'a> {
     /// `--replay`: the bundle is run on one thread.
     pub replay: bool,
+    /// `--workers N`: the bundle is run on threads, with so many workers.
+    pub workers: Option<u32>,
     /// `--library DIR`: workspaces are kept under this place.
     pub library: Option<&'a str>,
     /// `--text DIR`: text files are read and written under this place.
@@ -15,6 +17,10 @@ pub struct Words<'a> {
     pub clock: bool,
     /// `--load N`: a bundle of so many numbers is made and run on one thread.
     pub load: Option<u32>,
+    /// `--components`: files of arrays are kept in the place of files of lines.
+    pub components: bool,
+    /// `--relay`: texts are carried between users in the place of readings of a clock.
+    pub relay: bool,
 }
 
 /// Why words are not read.

@@ -3,6 +3,8 @@
 pub struct Written<'a> {
     /// `--replay` was written.
     pub replay: bool,
+    /// `--workers N`
+    pub workers: Option<&'a str>,
     /// `--library DIR`
     pub library: Option<&'a str>,
     /// `--text DIR`
@@ -11,4 +13,8 @@ pub struct Written<'a> {
     pub clock: bool,
     /// `--load N`
     pub load: Option<&'a str>,
+    /// `--components` was written.
+    pub components: bool,
+    /// `--relay` was written.
+    pub relay: bool,
 }

@@ -27,18 +27,31 @@ fn push_place(text: &mut String, name: &str, place: Option<&str>) -> Result<(), 
     }
 }
 
+// A count, behind its name.
+fn push_count(text: &mut String, name: &str, count: Option<u32>) -> Result<(), AllocError> {
+    match count {
+        Some(count) => write!(text, "{name} {count}; "),
+        None => Ok(()),
+    }
+}
+
 fn shown(alloc: Global, words: Words) -> Result<String, AllocError> {
     let mut text = String::new(alloc);
     if words.replay {
         text.push_str("replay; ")?;
     }
+    push_count(&mut text, "workers", words.workers)?;
     push_place(&mut text, "library", words.library)?;
     push_place(&mut text, "text", words.text)?;
     if words.clock {
         text.push_str("clock; ")?;
     }
-    if let Some(count) = words.load {
-        write!(text, "load {count}; ")?;
+    push_count(&mut text, "load", words.load)?;
+    if words.components {
+        text.push_str("components; ")?;
+    }
+    if words.relay {
+        text.push_str("relay; ")?;
     }
     text.push_str("no more")?;
     Ok(text)

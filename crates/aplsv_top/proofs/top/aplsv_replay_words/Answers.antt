@@ -53,6 +53,9 @@ returns-in-Ok-clause-text g c = λ asked means none. c.as_asked.ensures.text (ap
 pub returns-in-Ok-clause-clock : goal.returns-in-Ok-clause-clock
 returns-in-Ok-clause-clock g c = λ asked means none. c.as_asked.ensures.clock (ap (λ (a : Asked). a.clock) (c.in-Ok.ensures.only asked means) ∙ none)
 
+pub returns-in-Ok-clause-relayed : goal.returns-in-Ok-clause-relayed
+returns-in-Ok-clause-relayed g c = λ asked means none. c.as_asked.ensures.relayed (ap (λ (a : Asked). a.relay) (c.in-Ok.ensures.only asked means) ∙ none)
+
 pub returns-in-Ok-clause-library : goal.returns-in-Ok-clause-library
 returns-in-Ok-clause-library g c = λ asked means none. c.as_asked.ensures.library (ap (λ (a : Asked). a.library) (c.in-Ok.ensures.only asked means) ∙ none)
 

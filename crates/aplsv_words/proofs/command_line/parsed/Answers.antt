@@ -11,13 +11,13 @@ pub returns-in-Ok-clause-says : goal.returns-in-Ok-clause-says
 returns-in-Ok-clause-says c =
     let fit : list_any is_stray (map string_bytes c.args.args.now) ≡ false = sym (list_any-map is_stray string_bytes c.args.args.now) ∙ c.requires in
     read_is_what_words_say (app_of c.in_ok-command.command) c.in_ok-command.ensures (map string_bytes c.args.args.now) c.in-Ok.matches c.words_in.result fit c.in-Ok.ensures.matches c.in-Ok.ensures.kinds
-    c.words_in.ensures.replay c.words_in.ensures.library c.words_in.ensures.text c.words_in.ensures.clock c.words_in.ensures.load
+    c.words_in.ensures.replay c.words_in.ensures.workers c.words_in.ensures.library c.words_in.ensures.text c.words_in.ensures.clock c.words_in.ensures.load c.words_in.ensures.components c.words_in.ensures.relay
 
 pub returns-in-Ok-clause-only : goal.returns-in-Ok-clause-only
 returns-in-Ok-clause-only c =
     let fit : list_any is_stray (map string_bytes c.args.args.now) ≡ false = sym (list_any-map is_stray string_bytes c.args.args.now) ∙ c.requires in
     read_is_all_that_is_said (app_of c.in_ok-command.command) c.in_ok-command.ensures (map string_bytes c.args.args.now) c.in-Ok.matches c.words_in.result fit c.in-Ok.ensures.matches c.in-Ok.ensures.kinds
-    c.words_in.ensures.replay c.words_in.ensures.library c.words_in.ensures.text c.words_in.ensures.clock c.words_in.ensures.load
+    c.words_in.ensures.replay c.words_in.ensures.workers c.words_in.ensures.library c.words_in.ensures.text c.words_in.ensures.clock c.words_in.ensures.load c.words_in.ensures.components c.words_in.ensures.relay
 
 pub returns-in-Err-clause-usage : goal.returns-in-Err-clause-usage
 returns-in-Err-clause-usage c = λ usage said.

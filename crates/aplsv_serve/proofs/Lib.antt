@@ -1,0 +1,12 @@
+pub mod Closing
+pub mod Devices
+pub mod Endings
+pub mod InTurn
+pub mod Knowing
+pub mod Numbers
+pub mod Opening
+pub mod Receiving
+pub mod Returning
+pub mod Rows
+pub mod Service
+pub mod UserTurns
