@@ -11,6 +11,7 @@ use Rattle.aux_components.specs.Filed as component
 use Rattle.aux_components.specs.Filed.{Filed}
 use Rattle.aux_components.specs.Protocol as component_state
 use Rattle.aux_relay.specs.Queues.{Queues, Relays}
+use Rattle.auxiliaries.specs.Clock.{RepliesByReading}
 use Rattle.auxiliaries.specs.Protocol.{idle}
 use Rattle.auxiliaries.specs.Served as line
 use Rattle.auxiliaries.specs.Served.{Served, forgotten}
@@ -20,9 +21,16 @@ use Rattle.sv_rules.specs.Entries.{Entries}
 use Rattle.aplsv_top.specs.Headline.{ShelvedRun, TwentyRun, clock_of, text_store_of}
 use Rattle.aplsv_top.specs.StoredFiles.{files_in, store_of}
 use Rattle.aplsv_top.proofs.OneOfRuns.{ten_is_first, ten_is_second, twenty_is_first, twenty_is_second}
-use Rattle.aplsv_top.proofs.Over.{FilesRun, faults_of, told_of}
+use Rattle.aplsv_top.proofs.Over.{FilesRun, clock_faults_of, faults_of, ticks_of, told_of}
 
 -- ---- behind 10
+
+-- the clock that was handed in, or what a run has of its own: a relay, or a clock of the bundle's readings
+abbrev pub ForgetsTen : {C : Type 0} → OneOf C (OneOf Queues Timer) → ℕ → OneOf C (OneOf Queues Timer) → Type 0
+ForgetsTen = Forgets (λ old party new. new ≡ old) (Forgets (λ old party new. new ≡ old) (λ old party new. new ≡ old))
+
+abbrev pub RepliesTen : {C : Type 0} → (C → Option Ticks) → (C → ℕ) → OneOf C (OneOf Queues Timer) → ℕ → PlainArray → PlainArray → OneOf C (OneOf Queues Timer) → Type 0
+RepliesTen ticks faults = Replies (λ old party value answer new. RepliesByReading ticks faults old value answer new) (Replies Relays (λ old party value answer new. RepliesByReading ticks_of clock_faults_of old value answer new))
 
 -- the first of two, or this where it is the second
 abbrev first_or : {X Y : Type 0} → X → OneOf X Y → X

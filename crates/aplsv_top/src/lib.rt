@@ -1,18 +1,18 @@
 //! The program, from the words of its command line to the bytes that it writes.
 #![tactic(auto)]
 
-mod behind_ten;
-mod behind_twenty;
 mod bytes;
-mod driver;
+mod choices;
+mod in_turns;
 mod laws;
 mod loads;
 mod memory;
+mod on_threads;
 mod output;
-mod over_shelves;
 mod printed;
 mod program;
-mod run;
+mod ran;
+mod shelf_places;
 mod status;
 mod summaries;
 mod top;

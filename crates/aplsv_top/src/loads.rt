@@ -4,8 +4,8 @@ ghost use Rattle.aplsv_words.specs.Meaning.{asked_by};
 ghost use Rattle.aplsv_top.specs.Loads.{HasLoadCause, IsLoadAs};
 ghost use Rattle.aplsv_top.specs.declared.status.Status.TheVariants as status;
 
-use crate::driver::InTurns;
-use crate::run::{Ran, run_as_asked};
+use crate::in_turns::run_as_asked;
+use crate::ran::Ran;
 use crate::status::{Finish, Status};
 use crate::summaries::summary_in;
 use crate::top::{ended, write};
@@ -17,12 +17,7 @@ use std::alloc::Global;
 
 /// Makes the bundle of so many numbers, runs it over the devices that the words name, and writes its summary. Nothing is read.
 /// It takes memory for the bundle, the run and the summary.
-pub(crate) fn loaded<
-    W: Sink,
-    T: TextStore + Send + Drop,
-    C: Clock + Send + Drop,
-    K: Shelf + Send + Drop,
->(
+pub(crate) fn loaded<W: Sink, T: TextStore, C: Clock, K: Shelf>(
     alloc: Global,
     count: u32,
     words: &Words,
@@ -51,7 +46,7 @@ pub(crate) fn loaded<
         text,
         clock,
         shelves,
-    } = run_as_asked(alloc, &InTurns, words, bundle, text, clock, shelves);
+    } = run_as_asked(alloc, words, bundle, text, clock, shelves);
     let written = summary_in(alloc, count, outcome);
     match written {
         Ok(written) => ended(write(&written, output), text, clock, shelves),

@@ -9,8 +9,8 @@ ghost use Rattle.aplsv_top.specs.Loads.{HasLoadCause, IsLoadAs};
 ghost use Rattle.aplsv_top.specs.Words.{HaveMeaning, IsConclusion};
 ghost use Rattle.aplsv_top.specs.declared.status.Status.TheVariants as status;
 
-use crate::driver::{InTurns, OnThreads};
 use crate::loads::loaded;
+use crate::on_threads::{Server, served};
 use crate::status::{Finish, Status};
 use crate::top::{ended, run};
 use apl_io::{Clock, Gate, Shelf, Sink, Source, TextStore};
@@ -170,11 +170,11 @@ fn by_driver<
         → (result.text ≡ text) × (result.clock ≡ clock) × (result.shelves ≡ shelves) }
 {
     if words.replay {
-        run(alloc, &InTurns, words, input, output, text, clock, shelves)
+        run(alloc, words, input, output, text, clock, shelves)
     } else {
         let workers = workers_for(words);
-        let driver = OnThreads { rt, workers, gate };
-        run(alloc, &driver, words, input, output, text, clock, shelves)
+        let server = Server { rt, workers, gate };
+        served(alloc, &server, words, input, output, text, clock, shelves)
     }
 }
 

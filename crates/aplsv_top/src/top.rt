@@ -8,9 +8,9 @@ ghost use Rattle.aplsv_top.specs.Headline.{IsOutputAs};
 ghost use Rattle.aplsv_top.specs.Words.{AskReplay, IsConclusion};
 ghost use Rattle.aplsv_top.specs.declared.status.Status.TheVariants as status;
 
-use crate::driver::{Driver, InTurns};
+use crate::in_turns::run_as_asked;
 use crate::output::output_in;
-use crate::run::{Ran, run_as_asked};
+use crate::ran::Ran;
 use crate::status::{Finish, Status};
 use apl_arrays::Bytes;
 use apl_io::{Clock, ReadRefused, Shelf, Sink, Source, TextStore, WriteFault, read_all, write_all};
@@ -19,7 +19,7 @@ use bundle_text::{BundleRefused, read};
 use std::alloc::Global;
 
 /// The most bytes of a bundle.
-const INPUT_LIMIT: usize = 4_194_304;
+pub(crate) const INPUT_LIMIT: usize = 4_194_304;
 
 /// What the program does for words among which `--replay` stands: it reads a bundle to its end, runs it on one thread, and
 /// writes the transcripts and the journal. Where it is `Done`, the journal written is one legal history: each set and each
@@ -31,13 +31,7 @@ const INPUT_LIMIT: usize = 4_194_304;
 /// `--replay`, are `Usage`. It returns for every source and sink. What no word names is not called, and comes back as it came; the store and
 /// the shelves of the bundle's users are told the place that a word names once a bundle was read, and the shelves behind
 /// these are left. Nothing is written unless a bundle was run, where memory runs out too.
-pub fn aplsv_replay_words<
-    S: Source,
-    W: Sink,
-    T: TextStore + Send + Drop,
-    C: Clock + Send + Drop,
-    K: Shelf + Send + Drop,
->(
+pub fn aplsv_replay_words<S: Source, W: Sink, T: TextStore, C: Clock, K: Shelf>(
     alloc: Global,
     words: &[String],
     input: &mut S,
@@ -92,13 +86,7 @@ pub(crate) fn ended<T, C, K>(status: Status, text: T, clock: C, shelves: Vec<K>)
 }
 
 // What words that have a meaning come to, where they ask for a replay; else they are `Usage`.
-fn as_asked<
-    S: Source,
-    W: Sink,
-    T: TextStore + Send + Drop,
-    C: Clock + Send + Drop,
-    K: Shelf + Send + Drop,
->(
+fn as_asked<S: Source, W: Sink, T: TextStore, C: Clock, K: Shelf>(
     alloc: Global,
     words: &Words,
     input: &mut S,
@@ -123,24 +111,15 @@ fn as_asked<
         → (result.text ≡ text) × (result.clock ≡ clock) × (result.shelves ≡ shelves) }
 {
     if words.replay {
-        run(alloc, &InTurns, words, input, output, text, clock, shelves)
+        run(alloc, words, input, output, text, clock, shelves)
     } else {
         ended(Status::Usage, text, clock, shelves)
     }
 }
 
-/// What words come to that ask for a run by this driver of a bundle that is read. It takes memory for the bundle, the run and the
-/// output.
-pub(crate) fn run<
-    D: Driver,
-    S: Source,
-    W: Sink,
-    T: TextStore + Send + Drop,
-    C: Clock + Send + Drop,
-    K: Shelf + Send + Drop,
->(
+/// What words come to that ask for a replay of a bundle that is read. It takes memory for the bundle, the run and the output.
+pub(crate) fn run<S: Source, W: Sink, T: TextStore, C: Clock, K: Shelf>(
     alloc: Global,
-    driver: &D,
     words: &Words,
     input: &mut S,
     output: &mut W,
@@ -148,7 +127,7 @@ pub(crate) fn run<
     clock: C,
     shelves: Vec<K>,
 ) -> Finish<T, C, K>
-    requires driver { D.in_turns ≡ (asked_by words.now).replay }
+    requires replayed { (asked_by words.now).replay ≡ true }
     requires shelves { vec_len shelves ≡ most_users }
     ensures causes { HasCause (IsOutputAs C.told C.faults T.told T.faults K.told K.faults (asked_by words.now) clock result.clock text result.text shelves.items result.shelves.items) result.status
         (record { bytes = S.left input.old; faults = S.faults input.old }) (record { bytes = S.left input.new; faults = S.faults input.new })
@@ -163,16 +142,7 @@ pub(crate) fn run<
         → (result.text ≡ text) × (result.clock ≡ clock) × (result.shelves ≡ shelves) }
 {
     match read_all(alloc, input, INPUT_LIMIT) {
-        Ok(bytes) => answer(
-            alloc,
-            driver,
-            words,
-            bytes.as_slice(),
-            output,
-            text,
-            clock,
-            shelves,
-        ),
+        Ok(bytes) => answer(alloc, words, bytes.as_slice(), output, text, clock, shelves),
         Err(ReadRefused::ReadFault) => ended(Status::ReadFault, text, clock, shelves),
         Err(ReadRefused::TooLong) => ended(Status::TooLong, text, clock, shelves),
         Err(ReadRefused::WantOfMemory) => ended(Status::WantOfMemory, text, clock, shelves),
@@ -180,15 +150,8 @@ pub(crate) fn run<
 }
 
 // What becomes of bytes that were all read: they are the whole of a source that has no faults.
-fn answer<
-    D: Driver,
-    W: Sink,
-    T: TextStore + Send + Drop,
-    C: Clock + Send + Drop,
-    K: Shelf + Send + Drop,
->(
+fn answer<W: Sink, T: TextStore, C: Clock, K: Shelf>(
     alloc: Global,
-    driver: &D,
     words: &Words,
     bytes: &[u8],
     output: &mut W,
@@ -197,7 +160,7 @@ fn answer<
     shelves: Vec<K>,
 ) -> Finish<T, C, K>
     requires few { length bytes.now ≤ most_input_bytes }
-    requires driver { D.in_turns ≡ (asked_by words.now).replay }
+    requires replayed { (asked_by words.now).replay ≡ true }
     requires shelves { vec_len shelves ≡ most_users }
     ensures causes { HasCause (IsOutputAs C.told C.faults T.told T.faults K.told K.faults (asked_by words.now) clock result.clock text result.text shelves.items result.shelves.items) result.status
         (record { bytes = Some bytes.now; faults = 0 }) (record { bytes = Some []; faults = 0 })
@@ -225,7 +188,7 @@ fn answer<
         text,
         clock,
         shelves,
-    } = run_as_asked(alloc, driver, words, bundle, text, clock, shelves);
+    } = run_as_asked(alloc, words, bundle, text, clock, shelves);
     let written = output_in(alloc, outcome);
     match written {
         Ok(written) => ended(write(&written, output), text, clock, shelves),

@@ -1,4 +1,4 @@
-use Rattle.std.proofs.Common.{◌≡◌, ◌∙◌, ℕ, ap, ap₂, subst, sym}
+use Rattle.std.proofs.Common.{◌≡◌, ◌∙◌, ℕ, true, ap, ap₂, subst, sym}
 use Rattle.std.proofs.lemmas.Result.{IfOk-at_ok}
 use Rattle.apl_arrays.specs.List.{Listed}
 use Rattle.aplsv_words.specs.Meaning.{asked_by}
@@ -46,7 +46,7 @@ returns-in-Ok-written-clause-causes g c =
     (run_written (IsOutputAs g.C.Clock.told g.C.Clock.faults g.T.TextStore.told g.T.TextStore.faults g.K.Shelf.told g.K.Shelf.faults (asked_by c.args.words.now) c.args.clock c.ended-in-Ok-written.result.clock c.args.text c.ended-in-Ok-written.result.text c.args.shelves.items c.ended-in-Ok-written.result.shelves.items)
     (λ bytes text out. (out.bundle, out.read)) c.args.bytes.now c.in-Ok-written.written.items (record { bytes = g.W.Sink.held c.args.output.now; faults = g.W.Sink.faults c.args.output.now })
     (record { bytes = g.W.Sink.held c.write.new.output; faults = g.W.Sink.faults c.write.new.output }) c.write.result c.requires.few
-    (output_as g.D.Driver.in_turns g.C.Clock.told g.C.Clock.faults g.T.TextStore.told g.T.TextStore.faults g.K.Shelf.told g.K.Shelf.faults (asked_by c.args.words.now) c.requires.driver c.in-Ok.bundle c.args.bytes.now c.in-Ok-written.written.items
+    (output_as true g.C.Clock.told g.C.Clock.faults g.T.TextStore.told g.T.TextStore.faults g.K.Shelf.told g.K.Shelf.faults (asked_by c.args.words.now) (sym c.requires.replayed) c.in-Ok.bundle c.args.bytes.now c.in-Ok-written.written.items
     c.args.clock c.run_as_asked-outcome.result.clock c.ended-in-Ok-written.result.clock c.args.text c.run_as_asked-outcome.result.text c.ended-in-Ok-written.result.text
     c.args.shelves.items c.run_as_asked-outcome.result.shelves.items c.ended-in-Ok-written.result.shelves.items c.run_as_asked-outcome.result.ended
     c.in-Ok.ensures.bundle c.run_as_asked-outcome.ensures.run written same_clock same_text same_shelves)

@@ -1,5 +1,0 @@
-use Rattle.aux_choice.specs.OneOf.{is_first}
-use Rattle.aplsv_top.proofs.behind_ten.over_clock.Given as goal
-
-abbrev pub ghosts-over_ten : goal.ghosts-over_ten
-ghosts-over_ten g a = record { is_first = is_first a.ten }
