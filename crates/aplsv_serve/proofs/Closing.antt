@@ -1,7 +1,6 @@
 -- The parties of a run behind their last turn.
-use Rattle.std.proofs.Common.{◌≡◌, ℕ, ◌∷◌, ◌++◌, Bool, true, false, not, List, [], map, Option, IsTrue, refl, sym, ap, ap₂, ◌∙◌, subst, subst₂}
+use Rattle.std.proofs.Common.{◌≡◌, ℕ, ◌∷◌, ◌++◌, false, not, List, [], map, Option, IsTrue, refl, sym, ap, ap₂, ◌∙◌, subst, subst₂}
 use Rattle.std.specs.List.{AllByRecursion}
-use Rattle.std.specs.Prelude.{All}
 use Rattle.std.proofs.lemmas.Bool.{and_parts, not-true}
 use Rattle.std.proofs.lemmas.List.Elements.{All-from_recursion, recursion_from_All}
 use Rattle.std.proofs.lemmas.Simd.{map-map}
@@ -23,13 +22,13 @@ use Rattle.sv_turn.specs.Seating.{known_of}
 use Rattle.sv_turn.specs.declared.seat.Seat.{Seat}
 use Rattle.session_rules.specs.Auxiliaries.{IsAuxiliaryPart, events_of, some_stay}
 use Rattle.session_rules.specs.Behind.{forgets_of, of_each, replies_of}
-use Rattle.session_rules.specs.Run.{AreUserParts, IsRun, ServeUsers, user_numbers}
+use Rattle.session_rules.specs.Run.{AreUserParts, ServeUsers, user_numbers}
 use Rattle.auxiliaries.specs.Run.{IsReplierRun}
 use Rattle.apl_session.specs.PlainSession.{PlainSession}
 use Rattle.party_turns.specs.Seats.{HasPrinted, none_lost, seat_numbers, transcript_of}
 use Rattle.party_turns.specs.Serving.{IsAtWork}
 use Rattle.party_turns.specs.Sittings.{Sitting, lent_to, seats_in}
-use Rattle.party_turns.specs.SoFar.{IsSameUser, SittingIsWhole, IsWholeUnlessLost, user_of}
+use Rattle.party_turns.specs.SoFar.{IsWholeUnlessLost, user_of}
 use Rattle.party_turns.specs.declared.auxiliary.Auxiliary.{Auxiliary}
 use Rattle.party_turns.specs.declared.seat.UserSeat.{UserSeat}
 use Rattle.party_turns.proofs.Parts.{all_left, all_printed, dealings_of, each_deals, parts_of, serve_users}

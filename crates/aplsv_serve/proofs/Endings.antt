@@ -1,5 +1,5 @@
 -- The end of a run whose tasks are back.
-use Rattle.std.proofs.Common.{◌≡◌, ℕ, ◌∷◌, ◌&&◌, Bool, true, false, not, List, [], map, reverse, Option, IsTrue, refl, sym, ap, ◌∙◌, subst}
+use Rattle.std.proofs.Common.{◌≡◌, ℕ, ◌∷◌, ◌&&◌, Bool, not, List, [], map, reverse, Option, sym, ap, ◌∙◌, subst}
 use Rattle.std.specs.Prelude.{All, IfSome}
 use Rattle.std.proofs.lemmas.Bool.{and_parts, not-true}
 use Rattle.std.proofs.lemmas.List.Elements.{All-cons, All-head, All-nil, All-tail}

@@ -1,5 +1,5 @@
 -- A seat in its turn: what it finds, and what it has behind it.
-use Rattle.std.proofs.Common.{◌≡◌, ℕ, ◌+◌, ◌≤◌, ◌∷◌, ◌++◌, Bool, true, false, List, [], length, Option, Some, None, IsTrue, refl, sym, ap, ◌∙◌, subst}
+use Rattle.std.proofs.Common.{◌≡◌, ℕ, ◌∷◌, ◌++◌, true, false, List, [], length, Option, Some, None, IsTrue, refl, sym, ap, ◌∙◌, subst}
 use Rattle.std.specs.Prelude.{IfSome}
 use Rattle.apl_io.specs.Content.{Told}
 use Rattle.sv_core.specs.Core.{ArePeople, PlainCore}
@@ -8,20 +8,20 @@ use Rattle.sv_events.specs.Answer.{PlainAnswer}
 use Rattle.sv_events.specs.Entry.{PlainEntry}
 use Rattle.sv_rules.specs.Entries.{Entries, has_left}
 use Rattle.sv_rules.specs.Legal.{is_user}
-use Rattle.sv_turn.specs.Journals.{AddsOne, Begins, places_of}
+use Rattle.sv_turn.specs.Journals.{Begins, places_of}
 use Rattle.sv_turn.specs.Seating.{BelongsTo, known_of}
 use Rattle.sv_turn.specs.declared.seat.Seat.{Seat}
 use Rattle.sv_turn.specs.declared.view.View.{View}
 use Rattle.session_rules.specs.Shelf.{Exchange}
 use Rattle.apl_session.specs.PlainSession.{HasCome, PlainSession}
-use Rattle.party_turns.specs.Entering.{Brings, IsOneIf, IsOneMore, IsReady}
+use Rattle.party_turns.specs.Entering.{Brings, IsOneMore, IsReady}
 use Rattle.party_turns.specs.declared.intent.Intent.{Intent}
 use Rattle.party_turns.specs.declared.seat.UserSeat.{UserSeat}
 use Rattle.aplsv_serve.specs.Halls.{IsHall, IsSeatAtStile, Stile, users_of_stile}
 use Rattle.aplsv_serve.specs.UserTasks.{IsAboutTo, WillHaveComeFar, goes_on}
 use Rattle.aplsv_serve.specs.declared.hall.Hall.{Hall}
 use Rattle.aplsv_serve.proofs.Knowing.{IsKnown, about_since, is_known, left_since}
-use Rattle.aplsv_serve.proofs.UserTurns.{goes_and_stays, one_added, place_added, will_come}
+use Rattle.aplsv_serve.proofs.UserTurns.{goes_and_stays, place_added, will_come}
 
 -- ---- what it finds
 
@@ -85,6 +85,7 @@ module _ {K : Type 0} (told : K → Option (Told (ℕ × List ℕ))) (faults : K
   -- it will have come far where memory did not run out for it
   pub will_come_then : (about : Option Intent) (answer : Option PlainAnswer) (journal : Entries) → journal ≡ after.journal → (about ≡ None → then.is_lost ≡ true) → then.is_lost ≡ false → IfSome about (λ intent. IsAboutTo told faults known lent user intent)
       → IfSome about (λ intent. (exchanges : List Exchange) → IsReady before.journal exchanges intent user.session → Brings before exchanges user.session intent after answer) → WillHaveComeFar told faults journal lent then answer
+  unfolding about_again
   will_come_then None answer journal is nothing here h brings = absurd (let no : true ≡ false = sym (nothing refl) ∙ here in cc)
   will_come_then (Some intent) answer journal is nothing here h brings =
       let at = about_since told faults known before.journal lent user k intent h in

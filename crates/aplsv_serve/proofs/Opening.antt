@@ -1,9 +1,9 @@
 -- The parties of a run before their first turn.
-use Rattle.std.proofs.Common.{◌≡◌, ℕ, ◌≤◌, ◌∷◌, ◌||◌, Bool, true, false, eqb, List, [], map, Option, IsTrue, refl, sym, ap, ◌∙◌, subst, subst₂}
+use Rattle.std.proofs.Common.{◌≡◌, ℕ, ◌∷◌, true, false, eqb, List, [], map, Option, IsTrue, refl, sym, ap, ◌∙◌, subst, subst₂}
 use Rattle.std.specs.List.{AllByRecursion}
 use Rattle.std.specs.Prelude.{All}
 use Rattle.std.proofs.lemmas.Bool.{eq-eqb, or_left, or_right}
-use Rattle.std.proofs.lemmas.List.Elements.{All-cons, All-from_recursion, All-head, All-map, All-tail, recursion_from_All}
+use Rattle.std.proofs.lemmas.List.Elements.{All-from_recursion, recursion_from_All}
 use Rattle.std.proofs.lemmas.Simd.{map-map}
 use Rattle.apl_arrays.specs.Array.{PlainArray}
 use Rattle.apl_io.specs.Content.{Told}
@@ -15,7 +15,6 @@ use Rattle.sv_rules.specs.Entries.{Entries, has_left}
 use Rattle.sv_rules.specs.Legal.{is_user}
 use Rattle.sv_turn.specs.Journals.{places_of}
 use Rattle.sv_turn.specs.declared.seat.Seat.{Seat}
-use Rattle.apl_session.specs.PlainSession.{PlainSession}
 use Rattle.party_turns.specs.Serving.{IsAtWork}
 use Rattle.party_turns.specs.Sittings.{newly}
 use Rattle.party_turns.specs.SoFar.{IsSameUser, IsSeated}
@@ -24,7 +23,7 @@ use Rattle.party_turns.specs.declared.seat.UserSeat.{UserSeat}
 use Rattle.aplsv_serve.specs.Halls.{IsFreshSeat, IsHall, IsSeatAtStile, Stile, users_of_stile}
 use Rattle.aplsv_serve.specs.Starts.{AreNewTasks, IsNewService, IsNewUser}
 use Rattle.aplsv_serve.specs.Tasks.{AuxiliaryStands, PartyStands, StandsAt}
-use Rattle.aplsv_serve.specs.UserTasks.{HasComeFar, UserStands, lent_to, sitting_at}
+use Rattle.aplsv_serve.specs.UserTasks.{HasComeFar, UserStands}
 use Rattle.aplsv_serve.specs.declared.auxiliary_task.AuxiliaryTask.{AuxiliaryTask}
 use Rattle.aplsv_serve.specs.declared.hall.Hall.{Hall}
 use Rattle.aplsv_serve.specs.declared.party_task.PartyTask.{PartyTask}
@@ -134,4 +133,4 @@ module _ {X Y K G : Type 0} (forgets_ten : X → ℕ → X → Type 0) (replies_
       subst (λ (list : List (PartyTask X Y K)). All (PartyStands forgets_ten replies_ten forgets_twenty replies_twenty told faults hall) list) (sym row.is)
       (All-from_recursion (PartyStands forgets_ten replies_ten forgets_twenty replies_twenty told faults hall) (variant.Clock row.clock ∷ variant.TextFiles row.files ∷ map (λ (u : UserTask K). variant.User u) row.users)
       (in_hall (variant.Clock row.clock ∷ variant.TextFiles row.files ∷ map (λ (u : UserTask K). variant.User u) row.users)
-      (new_service forgets_ten replies_ten (party_of kind.Clock) hall.stile ten row.clock new.clock at.0 first, new_service forgets_twenty replies_twenty (party_of kind.TextFiles) hall.stile twenty row.files new.files at.1.0 second, of_users row.users stand)))
+      (new_service forgets_ten replies_ten (party_of kind.Clock) hall.stile ten row.clock new.clock at.0 first, (new_service forgets_twenty replies_twenty (party_of kind.TextFiles) hall.stile twenty row.files new.files at.1.0 second, of_users row.users stand))))

@@ -1,5 +1,5 @@
 -- What a user's session was asked and answered, where the user has its part of a legal journal.
-use Rattle.std.proofs.Common.{◌≡◌, ◌≢◌, ℕ, ◌∷◌, ◌++◌, Bool, true, false, not, List, [], map, reverse, None, IsTrue, refl, sym, ap, ap₂, ◌∙◌}
+use Rattle.std.proofs.Common.{◌≡◌, ◌≢◌, ℕ, ◌∷◌, ◌++◌, Bool, not, List, [], map, reverse, IsTrue, refl, sym, ap, ap₂, ◌∙◌}
 use Rattle.std.specs.Prelude.{cond, filter}
 use Rattle.std.specs.List.{AllByRecursion}
 use Rattle.std.proofs.lemmas.Bool.{cond_both}

@@ -1,5 +1,5 @@
 -- The turns of an auxiliary's task.
-use Rattle.std.proofs.Common.{◌≡◌, ℕ, ◌∷◌, ◌||◌, ◌&&◌, Bool, true, false, not, List, Option, IsTrue, refl, sym, ap, ◌∙◌, subst}
+use Rattle.std.proofs.Common.{◌≡◌, ℕ, ◌||◌, Bool, true, false, not, List, IsTrue, refl, sym, ap, ◌∙◌, subst}
 use Rattle.std.proofs.lemmas.Bool.{and_from, or_right}
 use Rattle.std.specs.Prelude.{◌==◌}
 use Rattle.apl_arrays.specs.Array.{PlainArray}

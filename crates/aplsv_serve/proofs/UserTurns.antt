@@ -1,17 +1,16 @@
 -- The turns of a user's task.
-use Rattle.std.proofs.Common.{◌≡◌, ℕ, ◌+◌, ◌≤◌, ◌++◌, Bool, true, false, List, [], ◌∷◌, length, Option, Some, None, refl, sym, ap, ◌∙◌, subst, arith}
+use Rattle.std.proofs.Common.{◌≡◌, ℕ, ◌+◌, ◌++◌, true, false, List, [], ◌∷◌, length, Option, sym, ap, ◌∙◌, subst, arith}
 use Rattle.std.proofs.lemmas.Bool.{both_ways}
 use Rattle.apl_io.specs.Content.{Told}
 use Rattle.sv_core.specs.Core.{PlainCore}
 use Rattle.sv_core.specs.Histories.{party_of_entry}
 use Rattle.sv_events.specs.Answer.{PlainAnswer}
-use Rattle.sv_events.specs.Entry.{PlainEntry}
 use Rattle.sv_rules.specs.Entries.{Entries, has_left}
 use Rattle.sv_turn.specs.Journals.{AddsOne, places_of}
 use Rattle.sv_turn.proofs.Places.{own_places}
 use Rattle.session_rules.specs.Shelf.{Exchange}
 use Rattle.apl_session.specs.PlainSession.{HasCome, PlainSession}
-use Rattle.party_turns.specs.Entering.{Brings, Finds, IsOneMore, IsReady, heard_if}
+use Rattle.party_turns.specs.Entering.{Brings, Finds, IsOneMore, heard_if}
 use Rattle.party_turns.specs.SoFar.{HasPart, IsSessionSoFar}
 use Rattle.party_turns.specs.declared.intent.Intent.{Intent}
 use Rattle.party_turns.specs.declared.intent.Intent.TheVariants as intent

@@ -1,5 +1,5 @@
 -- What a run on threads promises.
-use Rattle.std.specs.Prelude.{◌≡◌, ◌++◌, ℕ, List, Option, All, IsTrue, map, not}
+use Rattle.std.specs.Prelude.{◌≡◌, ℕ, List, Option}
 use Rattle.apl_arrays.specs.Array.{PlainArray}
 use Rattle.apl_io.specs.Clock.{Ticks}
 use Rattle.apl_io.specs.Content.{Told}

@@ -4,7 +4,6 @@ use Rattle.aux_parties.specs.Auxiliaries.{party_of}
 use Rattle.aux_parties.specs.declared.auxiliary.AuxiliaryKind.TheVariants as kind
 use Rattle.sv_events.specs.Entry.{PlainEntry}
 use Rattle.sv_turn.specs.declared.seat.Seat.{Seat}
-use Rattle.party_turns.specs.declared.auxiliary.Auxiliary.{Auxiliary}
 use Rattle.party_turns.specs.declared.seat.UserSeat.{UserSeat}
 use Rattle.aplsv_serve.specs.Tasks.{TaskRow}
 use Rattle.aplsv_serve.specs.declared.auxiliary_task.AuxiliaryTask.{AuxiliaryTask}

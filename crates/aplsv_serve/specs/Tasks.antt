@@ -1,5 +1,5 @@
 -- The tasks of all parties, as far as their seats know the journal.
-use Rattle.std.specs.Prelude.{◌≡◌, ◌≤◌, ◌∷◌, ℕ, Bool, false, List, Option, IsTrue, map}
+use Rattle.std.specs.Prelude.{◌≡◌, ◌≤◌, ◌∷◌, ℕ, false, List, Option, map}
 use Rattle.apl_arrays.specs.Array.{PlainArray}
 use Rattle.apl_io.specs.Content.{Told}
 use Rattle.aux_parties.specs.Auxiliaries.{party_of}

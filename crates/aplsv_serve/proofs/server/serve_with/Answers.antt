@@ -60,7 +60,7 @@ seat_all-tasks-requires-clause-room g c =
     (c.in-Ok.ensures.tasks.0, omega (arith, two, three, c.fill-users.result.ok.0, c.in-Ok.ensures.tasks.1))
 
 pub serve_all-tasks-requires-clause-stand : goal.serve_all-tasks-requires-clause-stand
-serve_all-tasks-requires-clause-stand g c =
+serve_all-tasks-requires-clause-stand g c κs within =
     let start = c.in-Ok.start in
     let users = c.fill-users.result.items in
     let numbers = plain_numbers c.users.result.now c.args.bundle.users c.users.ensures.value in

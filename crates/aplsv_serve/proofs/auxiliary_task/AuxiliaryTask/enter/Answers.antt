@@ -1,4 +1,4 @@
-use Rattle.std.proofs.Common.{rules, ◌≡◌, ◌∙◌, ◌∷◌, ◌++◌, ℕ, List, [], ap, length, refl, subst, sym}
+use Rattle.std.proofs.Common.{rules, ◌≡◌, ◌∙◌, ◌∷◌, ◌++◌, ℕ, [], ap, length, refl, subst, sym}
 use Rattle.sv_core.specs.Core.{PlainCore}
 use Rattle.sv_core.specs.Histories.{party_of_entry}
 use Rattle.sv_turn.specs.Journals.{Begins, places_of}

@@ -1,12 +1,10 @@
-use Rattle.std.proofs.Common.{◌≡◌, ◌∙◌, ◌∷◌, ◌++◌, ℕ, Bool, List, [], ap, length, option_map, subst, sym}
-use Rattle.std.specs.Prelude.{IfSome}
+use Rattle.std.proofs.Common.{◌≡◌, ◌∙◌, ◌∷◌, ◌++◌, ℕ, Bool, [], ap, length, option_map, subst, sym}
 use Rattle.sv_core.specs.Core.{PlainCore}
 use Rattle.sv_core.specs.Histories.{party_of_entry}
 use Rattle.sv_events.specs.Answer.{plain_answer}
 use Rattle.sv_turn.specs.Journals.{Begins, places_of}
 use Rattle.sv_turn.specs.Seating.{known_of}
-use Rattle.session_rules.specs.Shelf.{Exchange}
-use Rattle.party_turns.specs.Entering.{IsOneIf, IsOneMore, IsReady}
+use Rattle.party_turns.specs.Entering.{IsOneIf, IsOneMore}
 use Rattle.party_turns.specs.declared.seat.UserSeat.{UserSeat}
 use Rattle.aplsv_serve.specs.UserTasks.{lent_to}
 use Rattle.aplsv_serve.proofs.InTurn.{goes_then, known_then, ready_then, seat_entered, stays_then, will_come_then}
