@@ -16,7 +16,7 @@ use Rattle.aplsv_top.specs.Headline.{IsOutputOf, clock_of, shelves_of, text_stor
 use Rattle.aplsv_top.specs.OutputLaws.{BundlesHaveOneOutput, LeavesNoneUntold}
 use Rattle.aplsv_top.proofs.Files.{OneText}
 use Rattle.aplsv_top.proofs.OneReplay.{one_replay}
-use Rattle.aplsv_top.proofs.Sound.{TellsSound, files_sound, shelves_sound}
+use Rattle.aplsv_top.proofs.Sound.{IsSound, TellsSound, files_sound, shelves_sound}
 
 -- what a timer and a keeper tell, and how many faults they had
 abbrev readings_of : Timer → Option Ticks
@@ -39,8 +39,11 @@ found_told name (file ∷ files) = by (is_at (name_order name) file.name) (found
   by true rest = λ e. cc e
   by false rest = rest
 
+pub files_are_sound : (bundle : PlainBundle) → IsSound name_order (text_store_of bundle).told
+files_are_sound bundle = record { fails = refl; told = λ name. found_told name bundle.files }
+
 pub files_told : (bundle : PlainBundle) → TellsSound name_order (told_by (text_store_of bundle))
-files_told bundle = record { now = (text_store_of bundle).told; tells = refl; sound = record { fails = refl; told = λ name. found_told name bundle.files } }
+files_told bundle = record { now = (text_store_of bundle).told; tells = refl; sound = files_are_sound bundle }
 
 -- an empty shelf tells all
 abbrev pub empty_shelf : Keeper (ℕ × List ℕ)

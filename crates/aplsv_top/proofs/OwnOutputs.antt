@@ -24,7 +24,7 @@ use Rattle.aplsv_top.proofs.Clocks.{TickAlike, clocks_are_determined}
 use Rattle.aplsv_top.proofs.ComponentAnswers.{FiledAlike, FilesBegin, OneList, components_are_determined}
 use Rattle.aplsv_top.proofs.Determined.{Answers, IsDetermined}
 use Rattle.aplsv_top.proofs.Files.{BeginsWith, KnownReplies, OneText, ServeAlike, files_are_determined, known_run}
-use Rattle.aplsv_top.proofs.OneOutput.{empty_shelf, files_told, shelf_told}
+use Rattle.aplsv_top.proofs.OneOutput.{empty_shelf, files_are_sound, files_told, shelf_told}
 use Rattle.aplsv_top.proofs.OneReplay.{one_run}
 use Rattle.aplsv_top.proofs.Over.{clock_faults_of, faults_of, ticks_of, told_of}
 use Rattle.aplsv_top.proofs.RelayAnswers.{RelayAlike, relays_are_determined}
@@ -70,7 +70,7 @@ module _ (one_text : OneText) (one_list : OneList) (one_transcript : PartsMakeOn
       let content : Told (List ℕ) = (text_store_of bundle).told in
       one_of_own one_transcript bundle rules forgets_ten replies_ten BeginsTen AlikeTen one_ten
       (λ old party new. new ≡ component.forgotten old) (λ old party value answer new. component.Replies told_of faults_of old value answer new) (FilesBegin one_list told_of faults_of content) (FiledAlike one_list told_of faults_of)
-      (components_are_determined one_list told_of faults_of content (files_told bundle).sound)
+      (components_are_determined one_list told_of faults_of content (files_are_sound bundle))
       forgets_ten replies_ten (λ old party new. new ≡ component.forgotten old) (λ old party value answer new. component.Replies told_of faults_of old value answer new)
       journal other transcripts others ten ten_then tenth start (record { store = kept; state = over.0 }) (record { store = held; state = again.0 }) shelves_then racks_then over.1 again.1 (
         (ten, begins, (ten_then, (over.1.run.parts Clock).answers)),

@@ -1,5 +1,5 @@
-//! The same on threads. Its functions are those of a run in turns once more: what is handed to threads has to be able to cross
-//! them, which no trait of drivers can ask for one of the two alone.
+//! The same on threads. The functions that choose the devices stand here once more, since no method of a trait may hand to a
+//! thread what it knows by a bound alone.
 
 mod answer;
 mod behind_ten;

@@ -13,10 +13,10 @@ usage_is_no_want : refused.Usage ≡ refused.WantOfMemory → ⊥
 usage_is_no_want e = cc
 
 pub by_words-requires-clause-count : goal.by_words-requires-clause-count
-by_words-requires-clause-count g c = λ n is. load_counts (map string_bytes c.args.words.now) (asked_by c.in-Ok.asked) n c.in-Ok.ensures.means is
+by_words-requires-clause-count g c = λ lifetimes within n is. load_counts (map string_bytes c.args.words.now) (asked_by c.in-Ok.asked) n c.in-Ok.ensures.means is
 
 pub by_words-requires-clause-workers : goal.by_words-requires-clause-workers
-by_words-requires-clause-workers g c = λ n is. workers_count (map string_bytes c.args.words.now) (asked_by c.in-Ok.asked) n c.in-Ok.ensures.means is
+by_words-requires-clause-workers g c = λ lifetimes within n is. workers_count (map string_bytes c.args.words.now) (asked_by c.in-Ok.asked) n c.in-Ok.ensures.means is
 
 pub returns-in-Ok-clause-load : goal.returns-in-Ok-clause-load
 returns-in-Ok-clause-load g c = λ asked means n is.
