@@ -1,5 +1,5 @@
 -- Component files are answered in one way, in a store that tells all that it keeps and of which no call is to fail.
-use Rattle.std.proofs.Common.{◌≡◌, ◌≢◌, ℕ, Bool, true, false, List, [], ◌∷◌, Option, Some, None, refl, sym, ap, subst, ◌∙◌, inl, inr}
+use Rattle.std.proofs.Common.{◌≡◌, ◌≢◌, ℕ, List, Option, Some, None, refl, sym, ap, subst, ◌∙◌, inl, inr}
 use Rattle.std.specs.Prelude.{Result, Ok, Err}
 use Rattle.apl_arrays.specs.Array.{PlainArray}
 use Rattle.apl_arrays.specs.Name.{name_order}
@@ -7,7 +7,7 @@ use Rattle.apl_io.specs.Content.{IsChange, IsRead, MayRead, Reads, Told, Writes,
 use Rattle.apl_io.specs.declared.store_error.StoreError.{StoreError}
 use Rattle.apl_io.specs.declared.store_error.StoreError.TheVariants.{Failed, WantOfMemory}
 use Rattle.aux_components.specs.File.{AreComponents, component_asked, components_changed}
-use Rattle.aux_components.specs.Filed.{Filed, IsDone, IsReplaced, Replies, TakesStep, forgotten}
+use Rattle.aux_components.specs.Filed.{Filed, IsDone, Replies, TakesStep, forgotten}
 use Rattle.aux_components.specs.Protocol.{AfterAsked, AfterWritten, DueChange, FileState, Finds, IsDue, Step, answers, asks, changes, due_of, idle, protocol_step, refuses, writes}
 use Rattle.aplsv_top.proofs.Determined.{IsDetermined}
 use Rattle.aplsv_top.proofs.Sound.{IsSound, called_sound, changed_sound, none_fails}

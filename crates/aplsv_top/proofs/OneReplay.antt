@@ -23,7 +23,7 @@ use Rattle.session_rules.specs.Run.{AreUserParts, Dealings, ServeUsers}
 use Rattle.session_rules.specs.RunLaws.{PartsMakeOneTranscript}
 use Rattle.replay_rules.specs.Turns.{newcomer, numbers_of, ordered, rounds}
 use Rattle.aplsv_replay.specs.Replayed.{IsRunInTurns}
-use Rattle.aplsv_top.specs.OutputLaws.{AllTellThroughout, LeavesNoneUntold, OutputsAreDetermined, ReplaysAreDetermined}
+use Rattle.aplsv_top.specs.OutputLaws.{AllTellThroughout, OutputsAreDetermined, ReplaysAreDetermined}
 use Rattle.aplsv_top.proofs.Clocks.{TickAlike, clocks_are_determined}
 use Rattle.aplsv_top.proofs.Determined.{Answers, AnswersBehind, IsDetermined}
 use Rattle.aplsv_top.proofs.Ended.{DealingsFit, fit_at_end, same_dealings, same_parts}

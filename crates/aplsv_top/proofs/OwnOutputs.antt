@@ -1,5 +1,5 @@
 -- The output of a run over the bundle's own devices is one, with component files and a relay too.
-use Rattle.std.proofs.Common.{◌≡◌, ℕ, Bool, true, false, List, [], ◌∷◌, reverse, Option, Some, None, refl, sym, ap₂, subst, subst₂, ◌∙◌}
+use Rattle.std.proofs.Common.{◌≡◌, ℕ, Bool, true, false, List, [], reverse, Option, Some, None, refl, sym, ap₂, subst, subst₂, ◌∙◌}
 use Rattle.apl_arrays.specs.Array.{PlainArray}
 use Rattle.aux_components.specs.Filed as component
 use Rattle.aux_components.specs.Filed.{Filed}

@@ -1,5 +1,5 @@
 -- A relay answers in one way.
-use Rattle.std.proofs.Common.{◌≡◌, ◌<◌, ◌↔◌, ◌⊎◌, ℕ, suc, AllPairs, Contains, List, [], ◌∷◌, refl, sym, ap, ap₂, subst, ◌∙◌, inl, inr, arith}
+use Rattle.std.proofs.Common.{◌≡◌, ◌<◌, ◌⊎◌, ℕ, suc, AllPairs, Contains, List, [], ◌∷◌, refl, sym, ap, ap₂, subst, ◌∙◌, inl, inr, arith}
 use Rattle.std.proofs.lemmas.List.Kept.{AllPairs-from_increasing}
 use Rattle.apl_arrays.specs.Array.{PlainArray}
 use Rattle.aux_relay.specs.History.{AreSenders, IsAnswerTo, Reply, parties_answer}

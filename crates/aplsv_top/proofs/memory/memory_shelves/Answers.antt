@@ -1,4 +1,4 @@
-use Rattle.std.proofs.Common.{◌≡◌, ◌∙◌, ℕ, [], List, ap, map, sym}
+use Rattle.std.proofs.Common.{◌∙◌, ℕ, [], List, ap, map, sym}
 use Rattle.std.proofs.lemmas.List.{take_all}
 use Rattle.std.proofs.lemmas.Simd.{map-map}
 use Rattle.apl_io.specs.Kept.{Keeper, new_keeper}
