@@ -3,7 +3,6 @@ use crate::ending::ending_of;
 use crate::files::StoredCase;
 use crate::run::run;
 use anyhow::{Context, Result, bail};
-use case_tables::Trial;
 use std::alloc::Global;
 use std::sync::Wait;
 use std::thread::Threads;
@@ -22,14 +21,6 @@ fn devices_of(words: &str) -> Option<(Device, Device, usize)> {
     let (source, rest) = words.split_once(", ")?;
     let (sink, room) = rest.split_once(", ")?;
     Some((device_of(source)?, device_of(sink)?, room.parse().ok()?))
-}
-
-/// Stored cases over devices that give and take pieces, fail or are full: the case, and the devices; the ending, and how many
-/// bytes of the output are written.
-#[derive(Clone, Copy)]
-pub struct Devices<'a, R> {
-    pub rt: &'a HostRuntime,
-    pub threads: &'a R,
 }
 
 fn case_over<'a>(stored: &'a StoredCase, devices: &str) -> Option<Case<'a>> {
@@ -52,23 +43,24 @@ fn written_text(alloc: Global, output: &[u8], written: &[u8]) -> Result<String> 
     })
 }
 
-impl<R: Threads + Wait + Sync> Trial for Devices<'_, R> {
-    fn given(&self) -> usize {
-        2
-    }
-
-    fn found(&self, alloc: Global, fields: &[&str]) -> Result<String> {
-        let [name, devices, ..] = fields else {
-            bail!("a case and devices are wanted");
-        };
-        let stored = StoredCase::read(self.rt, *name)?;
-        let ended = run(
-            self.threads,
-            alloc,
-            &case_over(&stored, *devices).context("no devices")?,
-        )?;
-        let ending = ending_of(alloc, &ended)?;
-        let written = written_text(alloc, stored.wanted()?.written, &ended.written)?;
-        Ok(format!(in alloc; "{ending} ¦ {written}")?)
-    }
+/// Stored cases over devices that give and take pieces, fail or are full: the case, and the devices; the ending, and how many
+/// bytes of the output are written.
+pub fn faulty<R: Threads + Wait + Sync>(
+    rt: &HostRuntime,
+    threads: &R,
+    alloc: Global,
+    fields: &[&str],
+) -> Result<String> {
+    let [name, devices, ..] = fields else {
+        bail!("a case and devices are wanted");
+    };
+    let stored = StoredCase::read(rt, *name)?;
+    let ended = run(
+        threads,
+        alloc,
+        &case_over(&stored, *devices).context("no devices")?,
+    )?;
+    let ending = ending_of(alloc, &ended)?;
+    let written = written_text(alloc, stored.wanted()?.written, &ended.written)?;
+    Ok(format!(in alloc; "{ending} ¦ {written}")?)
 }

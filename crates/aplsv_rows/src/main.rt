@@ -13,6 +13,7 @@ mod handed;
 mod noted;
 mod over;
 mod prefixes;
+mod rows;
 mod run;
 mod threads;
 mod trials;
@@ -20,29 +21,49 @@ mod trials;
 use anyhow::Result;
 use calls::all_calls;
 use case_tables::{Tally, conclude, run_table};
-use devices::Devices;
+use devices::faulty;
 use ending::memory_differs;
 use folders::each_bundle;
 use over::Over;
 use prefixes::each_prefix;
+use rows::run_rows;
 use std::process::ExitCode;
 use std::sync::Wait;
 use std::thread::Threads;
-use threads::{LastLines, Meetings, OneJournal};
-use trials::{Refusals, Texts, Words};
+use threads::{last_lines, meetings, one_journal};
+use trials::{meaningless, printed, refused};
+
+// The tables of bundles and words.
+fn all_tables<R: Threads + Wait + Sync>(rt: &HostRuntime, threads: &R) -> Result<Tally> {
+    let refused = |alloc, fields: &[&str]| refused(threads, alloc, fields);
+    let printed = |alloc, fields: &[&str]| printed(threads, alloc, fields);
+    let meaningless = |alloc, fields: &[&str]| meaningless(threads, alloc, fields);
+    let mut tally = run_rows(rt, "refusals.txt", 1, refused)?;
+    tally.add(run_rows(rt, "texts.txt", 1, printed)?);
+    tally.add(run_rows(rt, "drawn.txt", 1, printed)?);
+    tally.add(run_rows(rt, "drawn_commands.txt", 1, printed)?);
+    tally.add(run_rows(rt, "words.txt", 1, meaningless)?);
+    Ok(tally)
+}
+
+// The tables of stored cases, over other devices and on threads.
+fn all_stored<R: Threads + Wait + Sync>(rt: &HostRuntime, threads: &R) -> Result<Tally> {
+    let faulty = |alloc, fields: &[&str]| faulty(rt, threads, alloc, fields);
+    let one_journal = |alloc, fields: &[&str]| one_journal(rt, threads, alloc, fields);
+    let meetings = |alloc, fields: &[&str]| meetings(rt, threads, alloc, fields);
+    let last_lines = |alloc, fields: &[&str]| last_lines(rt, threads, alloc, fields);
+    let mut tally = run_rows(rt, "devices.txt", 2, faulty)?;
+    tally.add(run_table(rt, "handed.txt", &Over)?);
+    tally.add(run_rows(rt, "threads.txt", 2, one_journal)?);
+    tally.add(run_rows(rt, "meetings.txt", 3, meetings)?);
+    tally.add(run_rows(rt, "last_lines.txt", 3, last_lines)?);
+    Ok(tally)
+}
 
 fn all_cases<R: Threads + Wait + Sync>(rt: &HostRuntime, threads: &R) -> Result<Tally> {
     let mut tally = each_bundle(rt, threads)?;
-    tally.add(run_table(rt, "refusals.txt", &Refusals { threads })?);
-    tally.add(run_table(rt, "texts.txt", &Texts { threads })?);
-    tally.add(run_table(rt, "drawn.txt", &Texts { threads })?);
-    tally.add(run_table(rt, "drawn_commands.txt", &Texts { threads })?);
-    tally.add(run_table(rt, "words.txt", &Words { threads })?);
-    tally.add(run_table(rt, "devices.txt", &Devices { rt, threads })?);
-    tally.add(run_table(rt, "handed.txt", &Over)?);
-    tally.add(run_table(rt, "threads.txt", &OneJournal { rt, threads })?);
-    tally.add(run_table(rt, "meetings.txt", &Meetings { rt, threads })?);
-    tally.add(run_table(rt, "last_lines.txt", &LastLines { rt, threads })?);
+    tally.add(all_tables(rt, threads)?);
+    tally.add(all_stored(rt, threads)?);
     tally.add(each_prefix(rt, threads)?);
     tally.count(memory_differs(rt)?);
     tally.add(all_calls(rt)?);

@@ -2,7 +2,7 @@ use crate::case::sound_case;
 use crate::ending::ending_of;
 use crate::run::{ProgramEnd, run};
 use anyhow::{Context, Result};
-use case_tables::{Trial, bytes_of};
+use case_tables::bytes_of;
 use std::alloc::Global;
 use std::str;
 use std::sync::Wait;
@@ -10,24 +10,6 @@ use std::thread::Threads;
 
 /// The words of a run of a bundle.
 pub const REPLAY: &str = "--replay";
-
-/// Bytes that are refused: the input; the ending. Nothing is written.
-#[derive(Clone, Copy)]
-pub struct Refusals<'a, R> {
-    pub threads: &'a R,
-}
-
-/// Bundles: the input; the output.
-#[derive(Clone, Copy)]
-pub struct Texts<'a, R> {
-    pub threads: &'a R,
-}
-
-/// Words that have no meaning: the words; the ending. Nothing is read or written.
-#[derive(Clone, Copy)]
-pub struct Words<'a, R> {
-    pub threads: &'a R,
-}
 
 // The ending of a run that is to write nothing.
 fn refusal_text(alloc: Global, ended: &ProgramEnd) -> Result<String> {
@@ -38,44 +20,38 @@ fn refusal_text(alloc: Global, ended: &ProgramEnd) -> Result<String> {
     Ok(format!(in alloc; "{ending}, with output")?)
 }
 
-impl<R: Threads + Wait + Sync> Trial for Refusals<'_, R> {
-    fn given(&self) -> usize {
-        1
-    }
-
-    fn found(&self, alloc: Global, fields: &[&str]) -> Result<String> {
-        let input = bytes_of(alloc, *fields.first().context("an input is wanted")?)?;
-        refusal_text(
-            alloc,
-            &run(self.threads, alloc, &sound_case(REPLAY, &input))?,
-        )
-    }
+/// Bytes that are refused: the input; the ending. Nothing is written.
+pub fn refused<R: Threads + Wait + Sync>(
+    threads: &R,
+    alloc: Global,
+    fields: &[&str],
+) -> Result<String> {
+    let input = bytes_of(alloc, *fields.first().context("an input is wanted")?)?;
+    refusal_text(alloc, &run(threads, alloc, &sound_case(REPLAY, &input))?)
 }
 
-impl<R: Threads + Wait + Sync> Trial for Words<'_, R> {
-    fn given(&self) -> usize {
-        1
-    }
-
-    fn found(&self, alloc: Global, fields: &[&str]) -> Result<String> {
-        let words = bytes_of(alloc, *fields.first().context("words are wanted")?)?;
-        let case = sound_case(str::from_utf8(&words)?, b"end\n");
-        refusal_text(alloc, &run(self.threads, alloc, &case)?)
-    }
+/// Words that have no meaning: the words; the ending. Nothing is read or written.
+pub fn meaningless<R: Threads + Wait + Sync>(
+    threads: &R,
+    alloc: Global,
+    fields: &[&str],
+) -> Result<String> {
+    let words = bytes_of(alloc, *fields.first().context("words are wanted")?)?;
+    let case = sound_case(str::from_utf8(&words)?, b"end\n");
+    refusal_text(alloc, &run(threads, alloc, &case)?)
 }
 
-impl<R: Threads + Wait + Sync> Trial for Texts<'_, R> {
-    fn given(&self) -> usize {
-        1
+/// Bundles: the input; the output.
+pub fn printed<R: Threads + Wait + Sync>(
+    threads: &R,
+    alloc: Global,
+    fields: &[&str],
+) -> Result<String> {
+    let input = bytes_of(alloc, *fields.first().context("an input is wanted")?)?;
+    let ended = run(threads, alloc, &sound_case(REPLAY, &input))?;
+    let ending = ending_of(alloc, &ended)?;
+    if ending.as_str() != "done" {
+        return Ok(ending);
     }
-
-    fn found(&self, alloc: Global, fields: &[&str]) -> Result<String> {
-        let input = bytes_of(alloc, *fields.first().context("an input is wanted")?)?;
-        let ended = run(self.threads, alloc, &sound_case(REPLAY, &input))?;
-        let ending = ending_of(alloc, &ended)?;
-        if ending.as_str() != "done" {
-            return Ok(ending);
-        }
-        Ok(String::from_str(alloc, str::from_utf8(&ended.written)?)?)
-    }
+    Ok(String::from_str(alloc, str::from_utf8(&ended.written)?)?)
 }

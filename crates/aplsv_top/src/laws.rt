@@ -35,8 +35,8 @@ pub fn outputs_are_determined<T: TextStore, C: Clock, K: Shelf>()
     one_transcript_of_parts();
 }
 
-/// Where no word names a device, what is written is one function of the bytes read, and of whether component files and a relay
-/// are asked for: so it is everywhere the same. The call does nothing.
+/// Where a replay is asked for and no word names a device, what is written is one function of the bytes read, and of whether
+/// component files and a relay are asked for: so it is everywhere the same. The call does nothing.
 pub fn own_outputs_are_one<T: TextStore, C: Clock, K: Shelf>()
     ensures { OwnOutputsAreOne C.told C.faults T.told T.faults K.told K.faults }
 {

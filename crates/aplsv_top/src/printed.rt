@@ -9,14 +9,14 @@ use journal_laws::{
 };
 
 /// The output of each run tells of the bundle that was read, over any devices; and where the program is `Done` it is this that
-/// was written (`causes` of `aplsv_replay_words`). The call does nothing.
+/// was written (`causes` of `aplsv` and of `aplsv_replay_words`). The call does nothing.
 pub fn outputs_are_printed<T: TextStore, C: Clock, K: Shelf>()
     ensures printed { OutputsArePrinted C.told C.faults T.told T.faults K.told K.faults }
     ensures written { WhatIsWrittenIsPrinted C.told C.faults T.told T.faults K.told K.faults }
 {}
 
-/// Where no word names a device, component files or a relay, what is written is the output of a run over the bundle's files and readings and empty shelves,
-/// of which there is one (`a_bundle_has_one_output`). The call does nothing.
+/// Where a replay is asked for, and no word names a device, component files or a relay, what is written is the output of a run over
+/// the bundle's files and readings and empty shelves, of which there is one (`a_bundle_has_one_output`). The call does nothing.
 pub fn own_outputs_are_the_bundles<T: TextStore, C: Clock, K: Shelf>()
     ensures { OwnOutputsAreTheBundles C.told C.faults T.told T.faults K.told K.faults }
 {}
