@@ -23,16 +23,15 @@ pub fn frame_of(room: Table, function: &Function, args: Args) -> Result<Table, W
 }
 
 /// What the frame of a function that is called with these arguments weighs: they themselves, but those that a label hides.
-#[tactic(auto, using(crate::proofs::FrameWeight::frame_weighs))]
-pub fn frame_weight(function: &Function, args: &Args) -> usize
+pub fn frame_weight(function: &Function, left: Option<&Array>, right: Option<&Array>) -> usize
     requires { IsFunction function.now }
-    ensures value { result ≡ table_weight (frame_of function.now args.now) }
+    ensures value { result ≡ table_weight (frame_of function.now (record { left = option_copied left.entry; right = option_copied right.entry })) }
     ensures within { result ≤ 2 * (most_elements + 1) }
 {
     let header = function.header();
     let labels = function.labels();
-    let left = argument_weight(labels, header.left, args.left.as_ref());
-    left + argument_weight(labels, header.right, args.right.as_ref())
+    let left = argument_weight(labels, header.left, left);
+    left + argument_weight(labels, header.right, right)
 }
 
 /// What an argument weighs in a frame with these labels: nothing where one of them hides it.

@@ -96,7 +96,8 @@ fn renew(alloc: Global, ws: &mut Workspace, name: &Name, text: &str) -> Result<O
     Ok(ws.renew(name, value_of(alloc, text)?))
 }
 
-// Enters a function with a left and a right argument, or with none.
+// Enters a function with a left and a right argument, or with none. WS FULL is told where its frame does not fit, or 100 are
+// under way.
 fn enter(alloc: Global, ws: &mut Workspace, name: &Name, text: &str) -> Result<Outcome> {
     let fields = if text.is_empty() { "- -" } else { text };
     let (left, right) = fields.split_once(" ").context("no right argument")?;
@@ -110,7 +111,14 @@ fn enter(alloc: Global, ws: &mut Workspace, name: &Name, text: &str) -> Result<O
         drop(args);
         bail!("no function with these arguments");
     }
-    Ok(ws.push_frame(name, args))
+    let is_full = !ws.frame_fits(name, args.left.as_ref(), args.right.as_ref())
+        || ws.depth() >= 100;
+    let outcome = ws.push_frame(name, args);
+    ensure!(
+        matches!(outcome, Err(Fail::Report(_))) == is_full,
+        "WS FULL is told otherwise than of the frame"
+    );
+    Ok(outcome)
 }
 
 // Enters a function without arguments so often, or until it is refused.

@@ -1,4 +1,4 @@
--- The seats of a replay at its beginning and at its end.
+-- The seats of a run at its beginning and at its end.
 use Rattle.std.specs.Prelude.{ℕ, Bool, true, false, List, Option, Some, None, map, not}
 use Rattle.std.specs.List.{list_all}
 use Rattle.apl_arrays.specs.List.{Listed}

@@ -1,4 +1,4 @@
--- The parties of a replay between two turns: what each did so far.
+-- The parties of a run between two turns: what each did so far.
 use Rattle.std.specs.Prelude.{Option, Some, IsSome, ◌≡◌, ◌⊎◌, ◌<◌, ◌+◌, ◌-◌, ◌++◌, ℕ, Bool, true, false, List, [], ◌∷◌, All, IsTrue, count_by, length, if◌then◌else◌}
 use Rattle.apl_arrays.specs.Array.{PlainArray}
 use Rattle.sv_rules.specs.Limits.{most_entries}
@@ -135,13 +135,13 @@ GoesOn before s after now =
     has_left before.journal s.user ≡ false
     → (work_with after.journal now < work_with before.journal s) ⊎ (IsTrue (is_still_held before.users before.journal s.user) × (after ≡ before) × (now ≡ s))
 
--- a user's turn was that of a replay, in whatever dealings it ends
+-- a user's turn was one that the rules of turns tell, in whatever dealings it ends
 abbrev pub IsTurn : {K : Type 0} → PlainCore → PlainSession K → PlainCore → Sitting K → Type 0
 IsTurn before s after now =
     (final : Dealings) → EndsIn final now → turn before.users before.journal (participant_of final s) ≡ record { journal = after.journal; user = participant_of final now.seat.session }
 
 module _ {K : Type 0} (told : K → Option (Told (ℕ × List ℕ))) (faults : K → ℕ) where
-  -- a session that waited heard the answer to its act, or waits on: its shelf was not called, it is so far, and its turn was that of a replay
+  -- a session that waited heard the answer to its act, or waits on: its shelf was not called, it is so far, and its turn was one that these rules tell
   pub record HasHeard (lent : K) (exchanges : List Exchange) (before : PlainCore) (s : PlainSession K) (after : PlainCore) (now : PlainSession K) : Type 0 where
     pub come : HasCome told faults lent exchanges now
     pub so_far : IsSessionSoFar after.journal exchanges now
@@ -163,7 +163,7 @@ module _ {K : Type 0} (told : K → Option (Told (ℕ × List ℕ))) (faults : K
 abbrev pub HasAnswered : {X : Type 0} → (X → ℕ → X → Type 0) → (X → ℕ → PlainArray → PlainArray → X → Type 0) → X → Entries → Auxiliary X → Type 0
 HasAnswered forgets replies start journal aux = IsReplierRun forgets replies start (events_of journal aux.party) aux.replier
 
--- an auxiliary's turn was that of a replay: it gave none of its replies, or the next one
+-- an auxiliary's turn was one that these rules tell: it gave none of its replies, or the next one
 pub record IsServed (party : ℕ) (before after : Entries) : Type 0 where
   pub made : List PlainArray
   pub turn : (rest : List PlainArray) → served before party (made ++ rest) ≡ record { journal = after; replies = rest }

@@ -17,7 +17,7 @@ mod working;
 
 pub use couplings::{couplings_of, made_by_ending};
 pub use legal::is_legal;
-pub use offers::standing_offers;
+pub use offers::{stand_after, standing_offers};
 pub use outcome::{ActOutcome, outcome_of};
 pub use room::is_full;
 pub use waiting::{is_stuck, refused};

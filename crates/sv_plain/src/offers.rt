@@ -72,7 +72,12 @@ fn end(offers: &mut Vec<Standing>, party: u32, ends: Option<Ending>)
     }
 }
 
-fn stand_after(offers: &mut Vec<Standing>, place: u64, entry: &Entry) -> Result<(), WantOfMemory>
+/// Goes on over an entry at a place: what stands after it, by what stood before. It takes memory for an offer.
+pub fn stand_after(
+    offers: &mut Vec<Standing>,
+    place: u64,
+    entry: &Entry,
+) -> Result<(), WantOfMemory>
     ensures { IfOk result
         (λ _. offers.new.items ≡ standing_after offers.old.items place entry.now.party (kind_of (plain_answer entry.now.answer)) (act_row entry.now.act).row) }
 {

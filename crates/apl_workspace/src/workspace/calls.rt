@@ -61,7 +61,8 @@ impl Workspace {
     {
         match self.look(function) {
             Seen::Function(function) => {
-                if self.weight() + frame_weight(function, &args) > WEIGHT_LIMIT {
+                let (left, right) = (args.left.as_ref(), args.right.as_ref());
+                if self.weight() + frame_weight(function, left, right) > WEIGHT_LIMIT {
                     drop(room);
                     drop(args);
                     return Err(Fail::Report(Report::WsFull));

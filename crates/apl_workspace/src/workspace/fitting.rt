@@ -1,12 +1,14 @@
 ghost use Rattle.std.specs.Prelude.{◌≡◌, ◌≤◌, ◌+◌, Some, min, nat_le};
+ghost use Rattle.std.specs.Option.{option_copied};
 ghost use Rattle.apl_workspace.specs.Limits.{most_weight};
 ghost use Rattle.apl_workspace.specs.Meaning.{meaning_weight};
-ghost use Rattle.apl_workspace.specs.Workspace.{assigned, with_global, workspace_weight};
+ghost use Rattle.apl_workspace.specs.Workspace.{assigned, with_frame, with_global, workspace_weight};
 
+use crate::frame::frame_weight;
 use crate::frames::{fits_innermost, innermost_place};
 use crate::limits::WEIGHT_LIMIT;
 use crate::meaning::value_weight;
-use crate::{Meaning, Workspace};
+use crate::{Meaning, Seen, Workspace};
 use apl_arrays::{Array, Name};
 
 impl Workspace {
@@ -40,5 +42,18 @@ impl Workspace {
         ensures { result ≡ nat_le (workspace_weight (with_global self.now name.now (Meaning.Shared (Some value.now)))) most_weight }
     {
         self.has_room(name, value_weight(value))
+    }
+
+    /// Whether the workspace weighs no more than it may with the frame of the function that a name stands for, called with
+    /// these arguments, or with the copies that are made of them.
+    pub fn frame_fits(&self, function: &Name, left: Option<&Array>, right: Option<&Array>) -> bool
+        ensures { result ≡ nat_le (workspace_weight (with_frame self.now function.now (record { left = option_copied left.entry; right = option_copied right.entry }))) most_weight }
+    {
+        let weight = self.weight();
+        match self.look(function) {
+            Seen::Function(function) => weight + frame_weight(function, left, right)
+                <= WEIGHT_LIMIT,
+            _ => true,
+        }
     }
 }
