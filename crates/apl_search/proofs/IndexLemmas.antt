@@ -1,14 +1,13 @@
 -- A search by halves among items with their places in order finds the first place of an item.
-use Rattle.std.proofs.Common.{◌≡◌, ℕ, ◌<◌, ◌≤◌, Bool, true, false, List, [], ◌∷◌, length, nat_lt, get_or, refl, sym, ap, subst, ◌∙◌, arith}
+use Rattle.std.proofs.Common.{◌≡◌, ℕ, ◌<◌, ◌≤◌, Bool, true, false, List, length, get_or, refl, sym, ap, subst, ◌∙◌, arith}
 use Rattle.std.specs.declared.cmp.Ordering.{Ordering}
 use Rattle.std.specs.declared.cmp.Ordering.TheVariants.{Less, Equal, Greater}
-use Rattle.std.specs.Cmp.{IsTotalOrder, Equal-is, both_ways, tied_back}
-use Rattle.std.specs.List.{All, list_any, position_or_len}
+use Rattle.std.specs.Cmp.{IsTotalOrder, Equal-is, tied_back}
+use Rattle.std.specs.List.{All, position_or_len}
 use Rattle.std.specs.List.Sorted.{IsPartitionedBy, IsPartitionPoint}
 use Rattle.std.specs.Ordering.{is_lt, is_eq, nat_cmp, ordering_reverse, ordering_then}
 use Rattle.std.proofs.lemmas.List.Sorted.{All-permutation, Contains-permutation, length_permutation, sorted_far}
-use Rattle.std.proofs.lemmas.List.Folds.{Any-from_list_any, list_any_at}
-use Rattle.std.proofs.lemmas.List.Sums.{fails_before_first, passes_at_first, position_or_len_is}
+use Rattle.std.proofs.lemmas.List.Sums.{position_or_len_is}
 use Rattle.std.proofs.lemmas.List.{get_or_default}
 use Rattle.std.proofs.lemmas.Bool.Decides.{nat_tests}
 use Rattle.apl_search.specs.Grade.{by_item, with_places}
@@ -136,24 +135,3 @@ first_place {T} R eq o ties list pairs item at stands splits within pair is same
     earlier : (k : ℕ) → k < pair.1 → k < length list → (b : Bool) → eq item (get_or list k item) ≡ b → eq item (get_or list k item) ≡ false
     earlier k below inside true e = absurd (clash k below inside ((Equal-is (R item (get_or list k item))).0 (sym (ties item (get_or list k item)) ∙ e)))
     earlier k below inside false e = e
-
--- a list has what passes where its first place is inside
-pub place_tells : {T : Type 0} (passes : T → Bool) (list : List T) → nat_lt (position_or_len passes list) (length list) ≡ list_any passes list
-place_tells {T} passes list = both_ways _ (list_any passes list) found inside
-  where
-    at_first : (xs : List T) (place : ℕ) → place < length xs → ((d : T) → passes (get_or xs place d) ≡ true) → list_any passes xs ≡ true
-    at_first [] place below here = absurd (omega arith)
-    at_first (x ∷ xs) place below here = list_any_at passes (x ∷ xs) place x below (here x)
-
-    found : nat_lt (position_or_len passes list) (length list) ≡ true → list_any passes list ≡ true
-    found e =
-        let below : position_or_len passes list < length list = grind (arith, nat_tests) in
-        at_first list (position_or_len passes list) below (λ (d : T). passes_at_first passes list d below)
-
-    inside : list_any passes list ≡ true → nat_lt (position_or_len passes list) (length list) ≡ true
-    inside e =
-        let at = Any-from_list_any passes list e in
-        let before : at.0 < position_or_len passes list → ⊥ =
-        λ (below : at.0 < position_or_len passes list). absurd (let bad : true ≡ false = sym (ap passes at.3 ∙ at.4) ∙ fails_before_first passes list at.0 at.1 below in cc) in
-        let below : position_or_len passes list < length list = (let here = at.2 in omega arith) in
-        grind (arith, nat_tests)

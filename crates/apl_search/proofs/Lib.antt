@@ -1,4 +1,4 @@
-mod ChainLemmas
+mod ClassLemmas
 mod CountingLemmas
 mod Counts
 mod DigitLemmas
@@ -6,6 +6,8 @@ mod DistanceLemmas
 mod EncodeLemmas
 mod GradeLemmas
 mod IndexLemmas
+mod MemberLemmas
+mod NearLemmas
 mod Orders
 mod PlacedLemmas
 mod RoundTripLemmas

@@ -1,4 +1,4 @@
-pub mod Chains
+pub mod Classes
 pub mod Decode
 pub mod Distances
 pub mod Encode

@@ -1,5 +1,5 @@
 ghost use Rattle.std.specs.Prelude.{◌≡◌, ◌≤◌, true, false, IfOk, length};
-ghost use Rattle.std.specs.List.{list_any, position_or_len};
+ghost use Rattle.std.specs.List.{position_or_len};
 ghost use Rattle.std.specs.List.Sorted.{IsPartitionPoint};
 ghost use Rattle.std.specs.Ordering.{is_lt};
 ghost use Rattle.apl_search.specs.Lookup.{IsIndexOf, StandsInOrder};
@@ -32,14 +32,6 @@ pub fn index_for<T: Ord + Copy + Drop>(
 /// Whether a walk for each of so many look-ups in a list that is so long costs no more than what makes them fast.
 pub(crate) fn is_few(long: usize, asked: usize) -> bool {
     long <= FEW || asked <= FEW
-}
-
-/// Whether a list has an item, by its index.
-pub fn has<T: Ord>(list: &[T], index: &[(T, u32)], item: &T) -> bool
-    requires { IsIndexOf T.cmp list.now index.now }
-    ensures { result ≡ list_any (T.eq item.now) list.now }
-{
-    first_place(list, index, item) < list.len()
 }
 
 /// The first place in a list of an item, from 0, or the length of the list, by its index.

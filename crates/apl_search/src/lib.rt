@@ -1,10 +1,11 @@
 //! The functions of APL that look items up, put them in order, and turn numbers into digits and back.
 #![tactic(auto)]
 
-mod chains;
+mod classes;
 mod counting;
 mod decoding;
 mod encoding;
+mod firsts;
 mod grade;
 mod index;
 pub mod laws;

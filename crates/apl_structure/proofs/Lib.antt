@@ -3,6 +3,7 @@ pub mod DiagonalLemmas
 pub mod DiagonalSizes
 pub mod LawLemmas
 pub mod LengthLemmas
+pub mod MatrixLemmas
 pub mod OppositeLemmas
 pub mod OwnPlacesLemmas
 pub mod ReshapeLemmas

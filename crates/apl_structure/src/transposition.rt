@@ -1,10 +1,12 @@
-ghost use Rattle.std.specs.Prelude.{◌≡◌, IfOk, reverse};
+ghost use Rattle.std.specs.Prelude.{◌≡◌, ◌*◌, ◌≤◌, IfOk, length, reverse};
+ghost use Rattle.apl_arrays.specs.Array.{item_count, plain_items, seen_items};
 ghost use Rattle.apl_items.specs.Answers.{Answers};
-ghost use Rattle.apl_structure.specs.Transposition.{transpose_of, transposed};
+ghost use Rattle.apl_items.specs.Moves.{moved_items, moved_list};
+ghost use Rattle.apl_structure.specs.Transposition.{transpose_of, transposed, turned_place};
 
-use apl_arrays::{Array, Fail, WantOfMemory};
-use apl_items::{Axes, moved_by_axes};
-use apl_selection::{scaled, stride_in, strides_of};
+use apl_arrays::{Array, Fail, Glyph, Items, ItemsRef, List, NumberList, WantOfMemory};
+use apl_items::{Axes, moved_by_axes, room_for};
+use apl_selection::{length_of, scaled, stride_in, strides_of};
 use std::alloc::Global;
 
 /// An array with its axes in reverse order. It takes memory for its shape, for strides and for the result.
@@ -30,11 +32,71 @@ fn transposed(alloc: Global, b: &Array, shape: &[u32]) -> Result<Array, WantOfMe
     if b.items().is_empty() {
         return Array::shaped(alloc, shape, b.items().copy(alloc)?);
     }
+    if b.shape().len() == 2 {
+        return turned_matrix(alloc, b, shape);
+    }
     let strides = strides_of(alloc, b.shape())?;
     let axes = Opposite {
         strides: strides.as_slice(),
     };
     Array::shaped(alloc, shape, moved_by_axes(alloc, b.items(), shape, &axes)?)
+}
+
+/// A matrix with its axes in reverse order, of that shape: column by column.
+fn turned_matrix(alloc: Global, b: &Array, shape: &[u32]) -> Result<Array, WantOfMemory>
+    requires matrix { length b.now.shape ≡ 2 }
+    requires shape { shape.now ≡ reverse b.now.shape }
+    ensures { IfOk result (λ array. array ≡ transposed b.now) }
+{
+    let columns = length_of(shape, 0) as usize;
+    let rows = length_of(shape, 1) as usize;
+    let items = turned_items(alloc, b.items(), rows, columns)?;
+    Array::shaped(alloc, shape, items)
+}
+
+/// The items of a matrix of so many rows and columns, column by column. The kind is chosen once.
+fn turned_items(
+    alloc: Global,
+    items: ItemsRef<'_>,
+    rows: usize,
+    columns: usize,
+) -> Result<Items, WantOfMemory>
+    requires whole { item_count (seen_items items) ≡ rows * columns }
+    requires small { rows * columns ≤ 16384 }
+    ensures { IfOk result (λ made. plain_items made ≡ moved_items (seen_items items.entry) (columns * rows) (turned_place rows columns)) }
+{
+    match items {
+        ItemsRef::Numbers(list) => {
+            let made = turned_list(alloc, list, 0, rows, columns)?;
+            Ok(Items::Numbers(NumberList::from(made)))
+        }
+        ItemsRef::Chars(list) => {
+            let made = turned_list(alloc, list, Glyph::BLANK, rows, columns)?;
+            Ok(Items::Chars(made))
+        }
+    }
+}
+
+/// A list of so many rows and columns, column by column. It asks once for memory.
+fn turned_list<T: Copy + Drop>(
+    alloc: Global,
+    list: &[T],
+    fill: T,
+    rows: usize,
+    columns: usize,
+) -> Result<List<T>, WantOfMemory>
+    requires whole { length list.now ≡ rows * columns }
+    requires small { rows * columns ≤ 16384 }
+    ensures { IfOk result (λ made. made.items ≡ moved_list fill list.now (columns * rows) (turned_place rows columns)) }
+{
+    let mut made = room_for(alloc, list.len())?;
+    for column in 0..columns {
+        for row in 0..rows {
+            let from = row * columns + column;
+            made.push_reserved(list[from]);
+        }
+    }
+    Ok(List::from(made))
 }
 
 /// The axes of a transpose, by the strides of its argument.

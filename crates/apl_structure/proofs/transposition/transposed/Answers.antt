@@ -29,7 +29,7 @@ moved_by_axes-requires-clause-lengths c = λ k h. axes_small c.args.shape.now (f
 
 pub moved_by_axes-requires-clause-within : goal.moved_by_axes-requires-clause-within
 moved_by_axes-requires-clause-within c = λ place at below is.
-    let value = c.shape.ensures.value in
+    let value = c.shape-2.ensures.value in
     let whole = ap (λ (xs : List ℕ). length xs) c.as_slice.ensures.value ∙ c.in_ok-strides.ensures.whole ∙ ap (λ (xs : List ℕ). length xs) value in
     let same = transposed_same c.args.b.now c.args.shape.now c.as_slice.result.now c.requires whole
     (λ axis h. ap (λ (xs : List ℕ). get_or xs axis 0) c.as_slice.ensures.value ∙ c.in_ok-strides.ensures.each axis (subst (λ (xs : List ℕ). axis < length xs) (sym value) h)
@@ -45,7 +45,7 @@ shaped-requires-2-clause-whole c = count_of_made (plain_items c.in_ok-moved_by_a
 
 pub returns : goal.returns
 returns c =
-    let value = c.shape.ensures.value in
+    let value = c.shape-2.ensures.value in
     let whole = ap (λ (xs : List ℕ). length xs) c.as_slice.ensures.value ∙ c.in_ok-strides.ensures.whole ∙ ap (λ (xs : List ℕ). length xs) value in
     made_is c.shaped-2.result _ _
     (transposed_is c.args.b.now c.args.shape.now c.as_slice.result.now (seen_items c.items-2.result) (plain_items c.in_ok-moved_by_axes.field-0) c.requires whole
