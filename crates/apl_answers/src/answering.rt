@@ -13,6 +13,7 @@ ghost use Rattle.apl_statements.specs.Moves.{Comes, part_gives};
 ghost use Rattle.apl_statements.specs.Sound.{IsCaller, IsFlow};
 ghost use Rattle.apl_statements.specs.Wants.{CopyFits};
 ghost use Rattle.apl_statements.specs.Work.{StaysWithin};
+ghost use Rattle.apl_answers.specs.Brought.{BringsEnough};
 
 use crate::assigning::{given, replace_items};
 use crate::changing::{mark, renew, unmark};
@@ -25,7 +26,8 @@ use sv_access::Control;
 use sv_events::{Answer, copy_value};
 
 /// What an answer brings: it ends the line by a report, also where there is no memory, or the statement that asked goes on.
-/// WS FULL where the workspace would weigh too much with the own copy that it brings, also where there is no memory.
+/// WS FULL where the workspace would weigh too much with the own copy that it brings, or a list that it brings is too large, and
+/// VALUE ERROR where that of a use has no value, each also where there is no memory.
 pub fn bring(
     interpreter: &mut Interpreter,
     answer: Answer,
@@ -37,6 +39,7 @@ pub fn bring(
     ensures comes { Comes interpreter.old (part_gives interpreter.old e (brought_by (plain_answer answer) (plain_act_purpose pending))) 0 interpreter.new result }
     ensures memory { OnWantOfMemory result (report_of_kind (answer_row (plain_answer answer)).row.kind ≡ None) }
     ensures room { OnWantOfMemory result (CopyFits interpreter.old.workspace (act_for_purpose (plain_act_purpose pending) interpreter.old.workspace) (plain_answer answer)) }
+    ensures brings { OnWantOfMemory result (BringsEnough interpreter.old (plain_act_purpose pending) (plain_answer answer)) }
     ensures sound { IfOk result (IsFlow interpreter.new) }
     ensures within { IfOk result (StaysWithin interpreter.old e interpreter.new) }
 {

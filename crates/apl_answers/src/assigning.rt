@@ -1,4 +1,4 @@
-ghost use Rattle.std.specs.Prelude.{◌≡◌, ◌≤◌, ◌∷◌, List, Some, None, Err, true, false, if◌then◌else◌, IfErr, IfOk, IfSome, IsOk, count_by, is_some, length, nat_lt, unwrap_or};
+ghost use Rattle.std.specs.Prelude.{◌≡◌, ◌≤◌, ◌∷◌, List, Some, None, Err, true, false, if◌then◌else◌, IfErr, IfOk, IfSome, IsOk, OnOk, count_by, is_some, length, nat_lt, unwrap_or};
 ghost use Rattle.std.specs.Option.{option_copied};
 ghost use Rattle.apl_workspace.specs.Limits.{most_weight};
 ghost use Rattle.apl_workspace.specs.Meaning.{is_shared_meaning, shared_copy};
@@ -15,8 +15,9 @@ ghost use Rattle.apl_values.specs.Values.{IsStackValue, stack_value};
 ghost use Rattle.apl_statements.specs.Moves.{Comes, part_gives, part_takes};
 ghost use Rattle.apl_statements.specs.Sound.{IsCaller, IsEvaluation, IsFlow};
 ghost use Rattle.apl_statements.specs.Holding.{parts_of, stack_value_given, stack_values};
-ghost use Rattle.apl_statements.specs.Work.{StaysWithin};
+ghost use Rattle.apl_statements.specs.Work.{StaysWithin, machine_work, parts_left};
 ghost use Rattle.apl_subscripts.specs.Held.{MayBeReplaced, behind_subs, subs_held};
+ghost use Rattle.apl_answers.specs.WentOn.{went_on};
 
 use crate::changing::{assign_value, not_assigned};
 use apl_arrays::{Array, Fail, Name, Report, WantOfMemory};
@@ -42,6 +43,31 @@ pub fn assign(interpreter: &mut Interpreter, e: Evaluation, name: Name) -> Resul
     let held = e.take()?;
     let right = right_side(interpreter, &e, held, &name)?;
     put(interpreter, e, name, right, None)
+}
+
+/// An assignment of the newest value to a name that is not shared: the statement goes on with the value that the name has then.
+/// SYNTAX ERROR for a label or a function, else WS FULL where the workspace would weigh too much, each
+/// also where there is no memory.
+pub fn assign_unshared(
+    interpreter: &mut Interpreter,
+    e: &mut Evaluation,
+    name: Name,
+) -> Result<(), Fail>
+    requires sound { IsCaller interpreter.old.workspace e.old }
+    requires unshared { is_shared_meaning (look interpreter.old.workspace name) ≡ false }
+    ensures comes { Comes interpreter.old (part_takes interpreter.old e.old (assign_step name)) 0 interpreter.new (went_on e.new result) }
+    ensures memory { OnWantOfMemory result (is_assignable (look interpreter.old.workspace name) ≡ true) }
+    ensures room { (value : PlainArray) (values : List PlainArray) → stack_values interpreter.old.workspace e.old ≡ value ∷ values
+        → OnWantOfMemory result (workspace_weight (assigned interpreter.old.workspace name value) ≤ most_weight) }
+    ensures sound { OnOk result (IsEvaluation interpreter.new.workspace e.new) }
+    ensures work { OnOk result (machine_work interpreter.new ≡ machine_work interpreter.old) }
+    ensures left { OnOk result (parts_left e.new ≡ parts_left e.old) }
+{
+    let held = e.take()?;
+    let right = right_side(interpreter, e, held, &name)?;
+    assign_value(interpreter, e, &name, right)?;
+    e.push(StackValue::Named(name))?;
+    Ok(())
 }
 
 // A value that is to be assigned to a name, as an array of its own. Where there is no memory for it, what the assignment would
@@ -245,8 +271,8 @@ fn own_copy<'a>(interpreter: &'a Interpreter, name: &Name) -> Option<&'a Array>
     }
 }
 
-// Whether a name is seen as shared.
-fn is_seen_shared(interpreter: &Interpreter, name: &Name) -> bool
+/// Whether a name is seen as shared.
+pub fn is_seen_shared(interpreter: &Interpreter, name: &Name) -> bool
     ensures { result ≡ is_shared_meaning (look interpreter.now.workspace name.now) }
 {
     matches!(interpreter.workspace.look(name), Seen::Shared(_))

@@ -7,4 +7,4 @@ mod changing;
 mod lists;
 
 pub use answering::bring;
-pub use assigning::{assign, assign_items};
+pub use assigning::{assign, assign_items, assign_unshared, is_seen_shared};

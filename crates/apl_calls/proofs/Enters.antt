@@ -1,8 +1,9 @@
 -- A call enters a function: its frame stands before the others, and the statement that called it waits.
-use Rattle.std.proofs.Common.{◌≡◌, ℕ, ◌<◌, ◌≤◌, Bool, true, false, List, ◌∷◌, length, refl, sym, ap, subst, ◌∙◌, leb, arith}
+use Rattle.std.proofs.Common.{◌≡◌, ℕ, ◌<◌, ◌≤◌, ◌⊎◌, inl, inr, Bool, true, false, List, ◌∷◌, length, refl, sym, ap, subst, ◌∙◌, leb, arith}
 use Rattle.std.specs.Prelude.{Err, is_some, map, if◌then◌else◌}
-use Rattle.std.proofs.lemmas.Bool.{and_parts, false≢true, le-leb}
+use Rattle.std.proofs.lemmas.Bool.{and_parts, false≢true, le-leb, leb-true}
 use Rattle.std.proofs.lemmas.Bool.Decides.{nat_tests}
+use Rattle.apl_arrays.specs.declared.report.Fail.{Fail}
 use Rattle.apl_arrays.specs.declared.report.Fail.TheVariants as fail
 use Rattle.apl_arrays.specs.declared.report.Report.{Report}
 use Rattle.apl_arrays.specs.declared.report.Report.TheVariants.{Syntax, WsFull}
@@ -10,11 +11,11 @@ use Rattle.apl_workspace.specs.Frame.{AreArgumentsOf}
 use Rattle.apl_workspace.specs.Function.{PlainFunction}
 use Rattle.apl_workspace.specs.Header.{PlainHeader}
 use Rattle.apl_workspace.specs.Limits.{most_depth, most_weight}
-use Rattle.apl_workspace.specs.Workspace.{AreArgumentsFor, PlainWorkspace, empty_workspace, look, with_frame, workspace_weight}
+use Rattle.apl_workspace.specs.Workspace.{AreArgumentsFor, IsNotEntered, PlainWorkspace, empty_workspace, look, with_frame, workspace_weight}
 use Rattle.apl_workspace.specs.declared.args.Args.{Args}
 use Rattle.apl_workspace.specs.declared.meaning.Meaning.{Meaning}
 use Rattle.apl_workspace.specs.declared.meaning.Meaning.TheVariants as meaning
-use Rattle.apl_meaning.specs.State.{State, Outcome, gives, refuses, and_then, with_workspace}
+use Rattle.apl_meaning.specs.State.{State, Effect, Outcome, gives, refuses, and_then, with_workspace}
 use Rattle.apl_meaning.specs.Tasks.{Next}
 use Rattle.apl_meaning.specs.Calls.{call, call_by, called, entering, takes}
 use Rattle.apl_meaning.specs.Expressions.{Found}
@@ -30,7 +31,7 @@ use Rattle.apl_statements.specs.Holding.{IsWithValues}
 use Rattle.apl_statements.proofs.Renewing.{above, settled_caller}
 use Rattle.apl_statements.proofs.Same.{SameAt, at_once, behind_done, moves_as, moves_then}
 use Rattle.apl_statements.proofs.Steps.{call_enters}
-use Rattle.apl_calls.specs.Callings.{IsNotCalled, takes_so}
+use Rattle.apl_calls.specs.Callings.{IsNotCalled, MayBeCalled, takes_so}
 
 -- one that is
 pub takes_function : (m : Meaning) (args : Args) → takes_by m args ≡ true → (m ≡ meaning.Function (function_by m)) × (takes (function_by m).header args ≡ true)
@@ -114,6 +115,25 @@ too_deep m e name args takes deep =
     let s : State = state_at m asked count taken further in
     ap (λ (b : Bool). and_then (if b then refuses WsFull s else with_workspace (with_frame m.workspace name args) s) (λ _ t. rest t)) deep))
 
+same_either : (b : Bool) (effect : Effect) → (if b then effect else effect) ≡ effect
+same_either true effect = refl
+same_either false effect = refl
+
+-- where its frame weighs too much it is not entered
+pub too_heavy : (m : PlainInterpreter) (e : Evaluation) (name : List ℕ) (args : Args) → takes_by (look m.workspace name) args ≡ true → leb (workspace_weight (with_frame m.workspace name args)) most_weight ≡ false
+    → Moves m (part_gives m e (λ s. call ran name args s)) 0 m (λ s. refuses WsFull s)
+too_heavy m e name args takes heavy =
+    let is = takes_function (look m.workspace name) args takes in
+    let function : PlainFunction = function_by (look m.workspace name) in
+    let rest : State → Outcome Next = λ t. onward_lines function 1 (caller_of m.workspace (here m) e) m.stack t in
+    moves_as m m (part_gives m e (λ s. call ran name args s)) (λ s. and_then (entering name args s) (λ _ t. rest t)) (λ s. refuses WsFull s) 0 (call_is_to_enter m e name args function is.0 is.1)
+    (at_once m (λ s. and_then (entering name args s) (λ _ t. rest t)) (λ s. refuses WsFull s) (λ asked count taken further.
+    let s : State = state_at m asked count taken further in
+    let v : PlainWorkspace = with_frame m.workspace name args in
+    let deep : Bool = leb most_depth (length m.workspace.frames) in
+    ap (λ (b : Bool). and_then (if deep then refuses WsFull s else (if b then gives tt (record s { workspace = v }) else refuses WsFull s)) (λ _ t. rest t)) heavy
+    ∙ ap (λ (o : Effect). and_then o (λ _ t. rest t)) (same_either deep (refuses WsFull s))))
+
 pub shallow : (most n : ℕ) → leb most n ≡ false → n < most
 shallow most n e = grind (arith, nat_tests)
 
@@ -124,13 +144,33 @@ no_call (meaning.Function function) name args s other = ap (λ (b : Bool). if b 
 no_call (meaning.Label line) name args s other = refl
 no_call (meaning.Shared copy) name args s other = refl
 
+-- a function whose frame does not fit, or that is one too many
+pub is_full : (m : PlainInterpreter) (e : Evaluation) (name : List ℕ) (args : Args) (fits : Bool) → takes_by (look m.workspace name) args ≡ true → fits ≡ leb (workspace_weight (with_frame m.workspace name args)) most_weight
+    → (fits ≡ false) ⊎ (most_depth ≤ length m.workspace.frames) → Moves m (part_gives m e (λ s. call ran name args s)) 0 m (λ s. refuses WsFull s)
+is_full m e name args fits takes is (inl heavy) = too_heavy m e name args takes (sym is ∙ heavy)
+is_full m e name args fits takes is (inr deep) = too_deep m e name args takes (le-leb most_depth (length m.workspace.frames) deep)
+
 -- a function that is not called ends the line
-pub not_called : (m : PlainInterpreter) (e : Evaluation) (name : List ℕ) (args : Args) (why : Report) (takes : Bool) → takes ≡ takes_by (look m.workspace name) args → IsNotCalled takes (length m.workspace.frames) why
-    → Comes m (part_gives m e (λ s. call ran name args s)) 0 m (Err (fail.Report why))
-not_called m e name args why true is refused =
+pub not_called : (m : PlainInterpreter) (e : Evaluation) (name : List ℕ) (args : Args) (why : Report) (takes fits : Bool) → takes ≡ takes_by (look m.workspace name) args → fits ≡ leb (workspace_weight (with_frame m.workspace name args)) most_weight
+    → IsNotCalled takes fits (length m.workspace.frames) why → Comes m (part_gives m e (λ s. call ran name args s)) 0 m (Err (fail.Report why))
+not_called m e name args why true fits is fitting refused =
     subst (λ (r : Report). Moves m (part_gives m e (λ s. call ran name args s)) 0 m (λ s. refuses r s)) (sym (refused.0))
-    (too_deep m e name args (sym is) (le-leb most_depth (length m.workspace.frames) (refused.1)))
-not_called m e name args why false is refused =
+    (is_full m e name args fits (sym is) fitting (refused.1))
+not_called m e name args why false fits is fitting refused =
     subst (λ (r : Report). Moves m (part_gives m e (λ s. call ran name args s)) 0 m (λ s. refuses r s)) (sym refused)
     (at_once m (part_gives m e (λ s. call ran name args s)) (λ s. refuses Syntax s) (λ asked count taken further.
     ap (λ (o : Outcome Found). carried_on o (caller_of m.workspace (here m) e) m.stack) (no_call (look m.workspace name) name args (state_at m asked count taken further) (sym is))))
+
+-- a function of these arguments, of which fewer are under way than may be, and whose frame fits, may be called
+pub may_call : (m : PlainInterpreter) (name : List ℕ) (args : Args) (takes fits : Bool) → takes ≡ takes_by (look m.workspace name) args → fits ≡ leb (workspace_weight (with_frame m.workspace name args)) most_weight
+    → takes ≡ true → length m.workspace.frames < most_depth → fits ≡ true → MayBeCalled m.workspace name args
+may_call m name args takes fits is fitting may few fit = record { takes = sym is ∙ may; shallow = few; fits = leb-true (workspace_weight (with_frame m.workspace name args)) most_weight (sym fitting ∙ fit) }
+
+-- where it may be entered, that it was not is want of memory
+pub only_memory : (before after : PlainWorkspace) (why : Fail) → IsNotEntered before after why → length before.frames < most_depth → workspace_weight after ≤ most_weight → why ≡ fail.WantOfMemory
+only_memory before after (fail.Report report) is few fits = absurd (neither is.1)
+  where
+    neither : (most_depth ≤ length before.frames) ⊎ (most_weight < workspace_weight after) → ⊥
+    neither (inl deep) = omega (arith, deep, few)
+    neither (inr heavy) = omega (arith, heavy, fits)
+only_memory before after fail.WantOfMemory is few fits = refl

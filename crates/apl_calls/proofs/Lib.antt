@@ -5,6 +5,7 @@ pub mod Falling
 pub mod HereLaw
 pub mod Innermost
 pub mod Keeping
+pub mod Lasts
 pub mod Leaving
 pub mod Left
 pub mod Lines

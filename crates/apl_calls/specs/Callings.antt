@@ -1,9 +1,9 @@
 -- Which functions may be called, and their arguments.
-use Rattle.std.specs.Prelude.{◌≡◌, ◌<◌, ◌≤◌, ◌&&◌, ℕ, Bool, true, false, Option, Some, is_some, option_map}
+use Rattle.std.specs.Prelude.{◌≡◌, ◌<◌, ◌≤◌, ◌&&◌, ◌⊎◌, ℕ, Bool, true, false, List, Option, Some, is_some, length, option_map}
 use Rattle.apl_arrays.specs.declared.report.Report.{Report}
 use Rattle.apl_arrays.specs.declared.report.Report.TheVariants.{Syntax, WsFull}
-use Rattle.apl_workspace.specs.Limits.{most_depth}
-use Rattle.apl_workspace.specs.Workspace.{PlainWorkspace}
+use Rattle.apl_workspace.specs.Limits.{most_depth, most_weight}
+use Rattle.apl_workspace.specs.Workspace.{PlainWorkspace, look, with_frame, workspace_weight}
 use Rattle.apl_workspace.specs.declared.args.Args.{Args}
 use Rattle.apl_workspace.specs.declared.meaning.Meaning.{Meaning}
 use Rattle.apl_workspace.specs.declared.meaning.Meaning.TheVariants as meaning
@@ -22,14 +22,16 @@ takes_so (meaning.Function function) left right = both_or_neither (is_some funct
 takes_so (meaning.Label line) left right = false
 takes_so (meaning.Shared copy) left right = false
 
--- a name that stands for this is a function of these arguments, and fewer are under way than may be
-abbrev pub MayBeCalled : Meaning → Args → ℕ → Type 0
-MayBeCalled seen args depth = (takes_by seen args ≡ true) × (depth < most_depth)
+-- a call is not refused: the name stands for a function of these arguments, fewer are under way than may be, and the workspace does not weigh too much with its frame
+pub record MayBeCalled (w : PlainWorkspace) (name : List ℕ) (args : Args) : Type 0 where
+  pub takes : takes_by (look w name) args ≡ true
+  pub shallow : length w.frames < most_depth
+  pub fits : workspace_weight (with_frame w name args) ≤ most_weight
 
--- why a function is not called: the name takes no such arguments, else as many are under way as may be
-abbrev pub IsNotCalled : Bool → ℕ → Report → Type 0
-IsNotCalled true depth why = (why ≡ WsFull) × (most_depth ≤ depth)
-IsNotCalled false depth why = why ≡ Syntax
+-- why a function is not called: the name takes no such arguments, else its frame does not fit, or as many are under way as may be
+abbrev pub IsNotCalled : Bool → Bool → ℕ → Report → Type 0
+IsNotCalled true fits depth why = (why ≡ WsFull) × ((fits ≡ false) ⊎ (most_depth ≤ depth))
+IsNotCalled false fits depth why = why ≡ Syntax
 
 -- the values of a statement as the arguments of a call
 abbrev pub arguments : PlainWorkspace → Evaluation → Option StackValue → StackValue → Args

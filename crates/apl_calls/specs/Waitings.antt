@@ -1,4 +1,5 @@
 -- Functions that wait, where the innermost goes to another line, or keeps what was read of one.
+use Rattle.std.specs.Arc.{arc_value}
 use Rattle.std.specs.Prelude.{◌≡◌, ◌≤◌, ◌-◌, ◌++◌, ◌⊎◌, ℕ, List, [], ◌∷◌, Option, Some, slice_get}
 use Rattle.apl_values.specs.declared.reading.LineReading.{LineReading}
 use Rattle.apl_statements.specs.declared.waiting.Waiting.{Waiting}
@@ -25,3 +26,13 @@ pub record IsKeptAt {A : Type 0} (readings : List (Option A)) (number : ℕ) : T
   pub reading : A
   pub some : 1 ≤ number
   pub there : slice_get readings (number - 1) ≡ Some (Some reading)
+
+-- the last of these functions keeps what it kept of its lines, or this reading at its place, and the others are as they were
+pub record IsKeepingAt (at : ℕ) (reading : LineReading) (before after : List Waiting) : Type 0 where
+  pub others : List Waiting
+  pub waiting : Waiting
+  pub keeping : Waiting
+  pub was : before ≡ others ++ waiting ∷ []
+  pub is : after ≡ others ++ keeping ∷ []
+  pub same : keeping ≡ record waiting { readings = keeping.readings }
+  pub kept : AreKeptOrRead arc_value at reading waiting.readings.items keeping.readings.items

@@ -22,7 +22,7 @@ ghost use Rattle.apl_calls.specs.Ended.{line_behind};
 ghost use Rattle.apl_calls.specs.Waitings.{standing_on};
 
 use crate::seen::{following, value_seen};
-use crate::waiting::{function_of, has_reading, header_of, keep, line_numbered, stand_at};
+use crate::waiting::{function_of, has_reading, header_of, keep_in, line_numbered, stand_at};
 use apl_arrays::{Array, Fail, Line, Report, WantOfMemory};
 use apl_statements::{Evaluation, Flow, Interpreter, Next, Purpose};
 use apl_values::{KnownLine, LineReading, Place, StackValue, read};
@@ -143,6 +143,18 @@ pub fn begin_line(interpreter: &mut Interpreter, number: usize) -> Result<Flow, 
     if !has_line(interpreter, number) {
         return Ok(Flow::Begins(leave(interpreter)?));
     }
+    begin_line_there(interpreter, number)
+}
+
+/// Begins a line that the function under way has.
+pub fn begin_line_there(interpreter: &mut Interpreter, number: usize) -> Result<Flow, Fail>
+    requires { IsSome (line_of_innermost interpreter.old.stack number) }
+    ensures comes { Comes interpreter.old (from_line interpreter.old.stack number) 0 interpreter.new result }
+    ensures memory { OnWantOfMemory result (0 < interpreter.old.statements) }
+    ensures sound { IfOk result (IsFlow interpreter.new) }
+    ensures afresh { IfOk result IsAfresh }
+    ensures falls { IfOk result (λ next. flow_work interpreter.new next + 2 ≤ machine_work interpreter.old) }
+{
     stand_at_line(interpreter, number);
     begin_text_of_line(interpreter, number)
 }
@@ -281,14 +293,7 @@ fn keep_reading(
     requires read { IsReadFrom interpreter.old.workspace (unwrap_or (line_of_innermost interpreter.old.stack number) []) (arc_value reading) }
     ensures { interpreter.new ≡ interpreter.old }
 {
-    match interpreter.callers.pop() {
-        None => Ok(()),
-        Some(mut waiting) => {
-            let kept = keep(&mut waiting.readings, number - 1, reading);
-            interpreter.callers.push_reserved(waiting);
-            kept
-        }
-    }
+    keep_in(&mut interpreter.callers, number - 1, reading)
 }
 
 /// Leaves the function under way with its result, and the statement that called it goes on.

@@ -5,7 +5,7 @@ ghost use Rattle.apl_arrays.specs.List.{glyphs_in};
 ghost use Rattle.apl_workspace.specs.Workspace.{global_in};
 ghost use Rattle.apl_meaning.specs.Tasks.{line_numbered};
 ghost use Rattle.apl_statements.specs.Evaluating.{function_in};
-ghost use Rattle.apl_calls.specs.Waitings.{AreKeptOrRead, IsKeptAt, IsStandingAt};
+ghost use Rattle.apl_calls.specs.Waitings.{AreKeptOrRead, IsKeepingAt, IsKeptAt, IsStandingAt};
 
 use apl_arrays::{Line, Name, WantOfMemory};
 use apl_statements::Waiting;
@@ -72,6 +72,19 @@ pub fn keep(
     }
     readings[at] = Some(reading);
     Ok(())
+}
+
+/// The innermost function keeps a reading at its place. It takes memory for the places before it.
+pub fn keep_in(
+    callers: &mut Vec<Waiting>,
+    at: usize,
+    reading: Arc<LineReading>,
+) -> Result<(), WantOfMemory>
+    requires { callers.old.items ≢ [] }
+    ensures { IsKeepingAt at (arc_value reading) callers.old.items callers.new.items }
+{
+    let last = callers.len() - 1;
+    keep(&mut callers[last].readings, at, reading)
 }
 
 /// Room for one function more. It takes memory for it.

@@ -1,25 +1,26 @@
 -- A function that is applied: the application counts once, and none does that may not be.
-use Rattle.std.proofs.Common.{◌≡◌, ℕ, ◌+◌, Bool, true, refl, sym, ap, ◌∙◌}
-use Rattle.std.specs.Prelude.{◌&&◌, ◌||◌, ℤ, Option, Some, None, Result, Ok, is_some, not, option_map, if◌then◌else◌}
+use Rattle.std.proofs.Common.{◌≡◌, ℕ, ◌+◌, Bool, true, refl, sym, ap, ◌∙◌, Bor}
+use Rattle.std.specs.Prelude.{◌&&◌, ◌||◌, ℤ, Option, Some, None, is_some, not, option_map, if◌then◌else◌}
+use Rattle.std.specs.Option.{option_copied}
 use Rattle.apl_arrays.specs.Array.{PlainArray}
-use Rattle.apl_arrays.specs.declared.report.Fail.{Fail}
 use Rattle.apl_arrays.specs.declared.report.Report.TheVariants.{Syntax}
 use Rattle.apl_verbs.specs.declared.verb.Verb.{Verb}
 use Rattle.operator_rules.specs.Apply.{applied}
 use Rattle.apl_verbs.specs.Arguments.{is_dyadic, verb_takes_axis}
 use Rattle.apl_meaning.specs.Expressions.{valued}
 use Rattle.apl_meaning.specs.Meaning.{closed}
-use Rattle.apl_meaning.specs.State.{State, gives, refuses, outcome_of}
+use Rattle.apl_meaning.specs.State.{State, refuses, outcome_of}
 use Rattle.apl_meaning.specs.Verbs.{application, both_or_neither, may_be_applied}
 use Rattle.apl_statements.specs.declared.evaluation.Evaluation.{Evaluation}
-use Rattle.apl_statements.specs.declared.flow.Flow.{Flow}
 use Rattle.apl_statements.specs.Evaluating.{caller_of}
 use Rattle.apl_statements.specs.Interpreter.{PlainInterpreter, here, state_at}
-use Rattle.apl_statements.specs.Moves.{Comes, Moves, part_gives}
+use Rattle.apl_statements.specs.Moves.{Moves, part_gives}
 use Rattle.apl_statements.specs.Stack.{carried_on}
-use Rattle.apl_statements.proofs.Moving.{comes_then}
-use Rattle.apl_statements.proofs.Same.{comes_as}
-use Rattle.apl_statements.proofs.Taken.{answer_gives}
+
+-- what is lent is there where it is lent
+pub copied_there : {A : Type 0} (o : Option (Bor A)) → is_some (option_copied o) ≡ is_some o
+copied_there None = refl
+copied_there (Some x) = refl
 
 may_as : {A : Type 0} (f : Verb) (value : A → PlainArray) (left : Option A) (axis : Option ℤ) → (both_or_neither (is_dyadic f) (is_some left) && (not (is_some axis) || verb_takes_axis f)) ≡ may_be_applied f (option_map value left) axis
 may_as f value None None = refl
@@ -37,7 +38,7 @@ may_tested f value left axis has_left has_axis tested one two is =
     ∙ sym is
 
 -- one that may be counts once
-counts_one : (m : PlainInterpreter) (e : Evaluation) (f : Verb) (left : Option PlainArray) (right : PlainArray) (axis : Option ℤ) (k : ℕ) → may_be_applied f left axis ≡ true → k ≡ 1
+pub counts_one : (m : PlainInterpreter) (e : Evaluation) (f : Verb) (left : Option PlainArray) (right : PlainArray) (axis : Option ℤ) (k : ℕ) → may_be_applied f left axis ≡ true → k ≡ 1
     → Moves m (part_gives m e (λ s. valued (application f left right axis s))) k m (part_gives m e (λ s. valued (outcome_of (applied f left right axis) s)))
 counts_one m e f left right axis k may one = record {
   same = λ asked count taken further.
@@ -45,11 +46,3 @@ counts_one m e f left right axis k may one = record {
       ap (λ (b : Bool). closed (carried_on (valued (if b then outcome_of (applied f left right axis) (record s { applications = s.applications + 1 }) else refuses Syntax s)) (caller_of m.workspace (here m) e) m.stack)) may
       ∙ ap (λ (n : ℕ). closed (part_gives m e (λ t. valued (outcome_of (applied f left right axis) t)) (state_at m asked (count + n) taken further))) (sym one);
 }
-
--- and then the statement gets its answer
-pub applies : (m : PlainInterpreter) (e : Evaluation) (f : Verb) (left : Option PlainArray) (right : PlainArray) (axis : Option ℤ) (k : ℕ) (array : PlainArray) (r : Result Flow Fail) → may_be_applied f left axis ≡ true → k ≡ 1 → applied f left right axis ≡ Ok array
-    → Comes m (part_gives m e (λ s. gives (Some array) s)) 0 m r → Comes m (part_gives m e (λ s. valued (application f left right axis s))) k m r
-applies m e f left right axis k array r may one is comes =
-    let answers = λ (s : State). valued (outcome_of (applied f left right axis) s) in
-    comes_then m m m (part_gives m e (λ s. valued (application f left right axis s))) (part_gives m e answers) k r (counts_one m e f left right axis k may one)
-    (comes_as m m (part_gives m e answers) (part_gives m e (λ s. gives (Some array) s)) 0 r (answer_gives m e (applied f left right axis) array is) comes)

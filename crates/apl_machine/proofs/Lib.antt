@@ -1,10 +1,15 @@
 pub mod Applies
+pub mod Gives
 pub mod Indexed
 pub mod NextHeld
 pub mod OpenStage
+pub mod OperandsThere
 pub mod Performs
+pub mod PlainSteps
 pub mod Standing
 pub mod StepParts
 pub mod Stopping
 pub mod WantParts
+pub mod WantPerforms
+pub mod WantSteps
 pub use Rattle.apl_statements.proofs.Steps

@@ -31,7 +31,7 @@ use Rattle.apl_statements.proofs.Same.{SameAt, at_once}
 use Rattle.apl_statements.proofs.Taken.{all_back, all_front}
 use Rattle.apl_machine.specs.Axes.{IsAxis, IsNoAxis}
 
-there : {A B : Type 0} (f : A → B) (o : Option A) → is_some (option_map f o) ≡ is_some o
+pub there : {A B : Type 0} (f : A → B) (o : Option A) → is_some (option_map f o) ≡ is_some o
 there f None = refl
 there f (Some a) = refl
 
@@ -40,7 +40,7 @@ one_or_none f None = refl
 one_or_none f (Some a) = refl
 
 -- the arguments are the newest values: the left one, the axis, and then the right one
-operands_first : (f : StackValue → PlainArray) (values : List StackValue) (operands : Operands)
+pub operands_first : (f : StackValue → PlainArray) (values : List StackValue) (operands : Operands)
     → reverse (map f (values ++ operand_list operands)) ≡ option_to_list (option_map f operands.left) ++ (option_to_list (option_map f operands.axis) ++ f operands.right ∷ reverse (map f values))
 operands_first f values operands =
     let right = operands.right in
@@ -130,6 +130,17 @@ performs_no_axis m e after f operands why s same taken is =
 -- ---- where the arguments are asked for so
 
 -- a function takes its arguments, and is performed
+pub performs_under : (m : PlainInterpreter) (e after : Evaluation) (f : Fun) (has_left has_axis : Bool) (operands : Operands) (number : Option ℤ)
+    → after ≡ record e { values = after.values } → e.values.items ≡ after.values.items ++ operand_list operands → is_some operands.left ≡ has_left → is_some operands.axis ≡ has_axis
+    → IsAxis (option_map (stack_value m.workspace (parts_of e)) operands.axis) number
+    → SameAt m (part_takes m e (apply_step ran f (if_there has_left) (if_there has_axis)))
+    (part_gives m after (performed ran f (option_map (stack_value m.workspace (parts_of e)) operands.left) (stack_value m.workspace (parts_of e) operands.right) number))
+performs_under m e after f has_left has_axis operands number same items left axis is asked count taken further =
+    let s : State = state_at m asked count taken further in
+    ap (λ (b : Bool). part_takes m e (apply_step ran f (if_there b) (if_there has_axis)) s) (sym left)
+    ∙ ap (λ (b : Bool). part_takes m e (apply_step ran f (if_there (is_some operands.left)) (if_there b)) s) (sym axis)
+    ∙ performs_by m e after f operands number s same items is
+
 pub performs_as : (m : PlainInterpreter) (e after : Evaluation) (f : Fun) (has_left has_axis : Bool) (operands : Operands) (number : Option ℤ)
     → after ≡ record e { values = after.values } → e.values.items ≡ after.values.items ++ operand_list operands → is_some operands.left ≡ has_left → is_some operands.axis ≡ has_axis
     → IsAxis (option_map (stack_value m.workspace (parts_of after)) operands.axis) number
@@ -137,9 +148,7 @@ pub performs_as : (m : PlainInterpreter) (e after : Evaluation) (f : Fun) (has_l
     (part_gives m after (performed ran f (option_map (stack_value m.workspace (parts_of after)) operands.left) (stack_value m.workspace (parts_of after) operands.right) number))
 performs_as m e after f has_left has_axis operands number same items left axis is asked count taken further =
     let s : State = state_at m asked count taken further in
-    ap (λ (b : Bool). part_takes m e (apply_step ran f (if_there b) (if_there has_axis)) s) (sym left)
-    ∙ ap (λ (b : Bool). part_takes m e (apply_step ran f (if_there (is_some operands.left)) (if_there b)) s) (sym axis)
-    ∙ performs_by m e after f operands number s same items (subst (λ (other : Evaluation). IsAxis (option_map (stack_value m.workspace (parts_of other)) operands.axis) number) same is)
+    performs_under m e after f has_left has_axis operands number same items left axis (subst (λ (other : Evaluation). IsAxis (option_map (stack_value m.workspace (parts_of other)) operands.axis) number) same is) asked count taken further
     ∙ ap (λ (other : Evaluation). part_gives m after (performed ran f (option_map (stack_value m.workspace (parts_of other)) operands.left) (stack_value m.workspace (parts_of other) operands.right) number) s) (sym same)
 
 along_none : (f : Fun) (left axis : Option PlainArray) (right : PlainArray) (report : Report) (s : State) → IsNoAxis axis (fail.Report report) → performed_where f left axis right s ≡ refuses report s

@@ -17,7 +17,7 @@ use Rattle.line_trees.specs.Nodes.{PlainNode, plain_node}
 use Rattle.line_trees.specs.declared.tree.Fun.{Fun}
 use Rattle.line_trees.specs.declared.tree.Node.TheVariants as coded
 use Rattle.apl_meaning.specs.State.{State, Outcome, gives, refuses, and_then, outcome_of}
-use Rattle.apl_meaning.specs.Tasks.{Next}
+use Rattle.apl_meaning.specs.Tasks.{Next, Run}
 use Rattle.apl_meaning.specs.Expressions.{Found, constant_array, constant_outcome, valued}
 use Rattle.apl_meaning.specs.Nodes.{Values, apply_step, leaving_values, node_step, ready}
 use Rattle.apl_meaning.specs.Meaning.{ran}
@@ -37,6 +37,7 @@ use Rattle.apl_statements.specs.Interpreter.{PlainInterpreter, here, state_at}
 use Rattle.apl_statements.specs.Moves.{Coming, Comes, flow_to_come, if_there, part_gives, part_takes}
 use Rattle.apl_statements.specs.Stack.{assignment_step, carried_on, onward}
 use Rattle.apl_statements.specs.Holding.{stack_values, parts_of}
+use Rattle.apl_machine.specs.Nexts.{IsNext}
 use Rattle.apl_statements.proofs.Parts.{next_around_none, next_part, next_wants, part_leaves}
 use Rattle.apl_statements.proofs.Same.{SameAt, at_once}
 
@@ -86,10 +87,6 @@ steps_by m e n (Some part) s is node there =
     let same : plain_part part ≡ n = cc in
     steps_to m e part s is there ∙ ap (λ (k : PlainNode). part_takes m (passed e) (node_step ran k) s) same
 
--- the next part is this node
-abbrev pub IsNext : Evaluation → PlainNode → Type 0
-IsNext e n = option_map plain_part (slice_get (parts_of e) e.at) ≡ Some n
-
 -- what is still to come of a statement
 abbrev pub to_come : PlainInterpreter → Evaluation → Coming
 to_come m e s = onward (evaluation_of m.workspace e) m.stack s
@@ -127,18 +124,18 @@ next_too_large m e items next there large asked count taken further =
 pub next_paren : (m : PlainInterpreter) (e : Evaluation) (k : ℕ) → IsNext e (node.paren k) → e.is_wanting ≡ false → SameAt m (to_come m e) (to_come m (passed e))
 next_paren m e k next there asked count taken further = next_takes m e (node.paren k) next there asked count taken further ∙ paren_stays m (passed e) (state_at m asked count taken further) there
 
-apply_there : (f : Fun) (left axis : Option ℕ) (values : List PlainArray) (s : State) → apply_step ran f left axis values s ≡ apply_step ran f (if_there (is_some left)) (if_there (is_some axis)) values s
-apply_there f None None values s = refl
-apply_there f None (Some axis) values s = refl
-apply_there f (Some left) None values s = refl
-apply_there f (Some left) (Some axis) values s = refl
+pub apply_there : (run : Run) (f : Fun) (left axis : Option ℕ) (values : List PlainArray) (s : State) → apply_step run f left axis values s ≡ apply_step run f (if_there (is_some left)) (if_there (is_some axis)) values s
+apply_there run f None None values s = refl
+apply_there run f None (Some axis) values s = refl
+apply_there run f (Some left) None values s = refl
+apply_there run f (Some left) (Some axis) values s = refl
 
 -- a function
 pub next_apply : (m : PlainInterpreter) (e : Evaluation) (f : Fun) (left : Option ℕ) (right : ℕ) (axis : Option ℕ) → IsNext e (node.apply f left right axis) → e.is_wanting ≡ false
     → SameAt m (to_come m e) (part_takes m (passed e) (apply_step ran f (if_there (is_some left)) (if_there (is_some axis))))
 next_apply m e f left right axis next there asked count taken further =
     next_takes m e (node.apply f left right axis) next there asked count taken further
-    ∙ ap (λ (o : Outcome Values). and_then o (λ values t. onward (record (evaluation_of m.workspace (passed e)) { values = values }) m.stack t)) (apply_there f left axis (stack_values m.workspace e) (state_at m asked count taken further))
+    ∙ ap (λ (o : Outcome Values). and_then o (λ values t. onward (record (evaluation_of m.workspace (passed e)) { values = values }) m.stack t)) (apply_there ran f left axis (stack_values m.workspace e) (state_at m asked count taken further))
 
 assign_there : (target : List ℕ) (subs : Option (Listed (Option ℕ))) (right : ℕ) (values : List PlainArray) (s : State) → node_step ran (plain_node (coded.Assign target subs right)) values s ≡ assignment_step target (option_map (λ places. places.items) subs) values s
 assign_there target None right values s = refl

@@ -49,8 +49,8 @@ applied_free m f left right axis may is asked count taken =
     subst (λ (b : Bool). IsNoReport (if b then outcome_of (applied f left right axis) (record s { applications = s.applications + 1 }) else refuses Syntax s)) (sym may)
     (answer_there (applied f left right axis) (record s { applications = s.applications + 1 }) is)
 
--- two things hold where memory ran out
-pub both_on_want : {T : Type 0} (r : Result T Fail) (one other : Type 0) → OnWantOfMemory r one → OnWantOfMemory r other → OnWantOfMemory r (one × other)
-both_on_want (Ok done) one other h k = tt
-both_on_want (Err (fail.Report report)) one other h k = tt
-both_on_want (Err fail.WantOfMemory) one other h k = (h, k)
+-- three things hold where memory ran out
+pub all_on_want : {T : Type 0} (r : Result T Fail) (one other last : Type 0) → OnWantOfMemory r one → OnWantOfMemory r other → OnWantOfMemory r last → OnWantOfMemory r (one × other × last)
+all_on_want (Ok done) one other last h k l = tt
+all_on_want (Err (fail.Report report)) one other last h k l = tt
+all_on_want (Err fail.WantOfMemory) one other last h k l = (h, k, l)

@@ -1,9 +1,11 @@
 pub mod Axes
+pub mod Given
 pub mod Machine
 pub mod Nexts
 pub mod Runs
 pub mod Stages
 pub mod Stops
+pub mod Wants
 pub use Rattle.apl_values.specs.Parts
 pub use Rattle.apl_values.specs.Pending
 pub use Rattle.apl_statements.specs.Interpreter

@@ -19,6 +19,7 @@ use Rattle.apl_statements.specs.Interpreter.{PlainInterpreter, at_rest_on}
 use Rattle.apl_statements.specs.Stack.{PlainCaller, PlainWaiting, behind, carried_on}
 use Rattle.apl_statements.specs.Wants.{CopyFits}
 use Rattle.apl_calls.specs.Ended.{ended_by}
+use Rattle.apl_answers.specs.Brought.{BringsEnough}
 use Rattle.apl_machine.specs.declared.machine.Stage.{Stage}
 use Rattle.apl_machine.specs.declared.machine.Stage.TheVariants as stage
 
@@ -77,12 +78,12 @@ IsOpenIn w lost asked = ⊥
 abbrev pub IsOpenAct : PlainMachine → Act → Type 0
 IsOpenAct m asked = IsOpenIn m.interpreter.workspace m.stage asked
 
--- memory may run out in a stage before a report is told: not where no statement may be begun or the line may not stand there, nor where an answer ends the line, or brings an own copy that does not fit
+-- memory may run out in a stage before a report is told: not where no statement may be begun or the line may not stand there, nor where an answer ends the line, lacks what its act was for, or brings an own copy or a list that does not fit
 abbrev pub MayWantMemory : PlainInterpreter → PlainStage → Type 0
 MayWantMemory m idle = Unit {0}
 MayWantMemory m (begins tree) = (0 < m.statements) × (is_misplaced immediate (line_tree_of tree) ≡ false)
 MayWantMemory m (is_open for_this caller) = Unit {0}
-MayWantMemory m (has_answer answer for_this caller) = (report_of_kind (answer_row answer).row.kind ≡ None) × CopyFits m.workspace (act_for_purpose for_this m.workspace) answer
+MayWantMemory m (has_answer answer for_this caller) = (report_of_kind (answer_row answer).row.kind ≡ None) × CopyFits m.workspace (act_for_purpose for_this m.workspace) answer × BringsEnough m for_this answer
 MayWantMemory m lost = Unit {0}
 
 -- a machine may run: a line is to begin, or an act has its answer; one that is lost may too, and answers so

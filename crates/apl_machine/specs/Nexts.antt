@@ -1,13 +1,20 @@
--- The next part of a statement where it only gives a value.
-use Rattle.std.specs.Prelude.{◌≡◌, ◌<◌, ◌+◌, ℕ, Bool, true, false, List, Option, Some, None}
-use Rattle.apl_arrays.specs.Array.{PlainArray}
+-- The next part of a statement where the statement goes on behind it in any case.
+use Rattle.std.specs.Prelude.{◌≡◌, ◌<◌, ◌+◌, ℕ, pos, List, Bool, true, false, Option, Some, None, is_some, option_map, slice_get}
+use Rattle.apl_arrays.specs.Array.{scalar}
 use Rattle.apl_workspace.specs.Workspace.{PlainWorkspace, is_assignable}
 use Rattle.apl_workspace.specs.declared.meaning.Meaning.{Meaning}
 use Rattle.apl_workspace.specs.declared.meaning.Meaning.TheVariants as meaning
+use Rattle.line_trees.specs.Nodes as node
+use Rattle.line_trees.specs.Nodes.{PlainNode}
+use Rattle.line_trees.specs.declared.tree.Fun.TheVariants as fun
 use Rattle.apl_meaning.specs.State.{gives}
+use Rattle.apl_values.specs.Parts.{plain_part}
 use Rattle.apl_values.specs.declared.values.StackValue.{StackValue}
+use Rattle.apl_values.specs.declared.values.StackValue.TheVariants as held
 use Rattle.apl_values.specs.Values.{IsStackValue, stack_value}
 use Rattle.apl_statements.specs.declared.evaluation.Evaluation.{Evaluation}
+use Rattle.apl_machine.specs.declared.passing.PlainStep.{PlainStep}
+use Rattle.apl_machine.specs.declared.passing.PlainStep.TheVariants as step
 use Rattle.apl_statements.specs.Evaluating.{evaluation_of}
 use Rattle.apl_statements.specs.Interpreter.{PlainInterpreter}
 use Rattle.apl_statements.specs.Moves.{Moves, part_gives}
@@ -16,9 +23,13 @@ use Rattle.apl_statements.specs.Holding.{parts_of}
 use Rattle.apl_statements.specs.Work.{parts_left}
 use Rattle.apl_subscripts.specs.Held.{MayBeReplaced, behind_subs, subs_held}
 
--- a name stands for a value
-abbrev pub IsValueSeen : Meaning → Type 0
-IsValueSeen m = (value : PlainArray) × (m ≡ meaning.Value value)
+-- a name that stands for this is held so: one that has a value by the name, a label as the number of its line, and no other at all
+abbrev pub IsHeldFor : Meaning → List ℕ → StackValue → Type 0
+IsHeldFor meaning.Nothing name value = ⊥
+IsHeldFor (meaning.Value array) name value = value ≡ held.Named name
+IsHeldFor (meaning.Function function) name value = ⊥
+IsHeldFor (meaning.Label line) name value = value ≡ held.Made (scalar (pos line))
+IsHeldFor (meaning.Shared copy) name value = ⊥
 
 -- no value is wanting, and the next part gives this one
 pub record IsNextStackValue (m : PlainInterpreter) (e : Evaluation) (held : StackValue) : Type 0 where
@@ -35,3 +46,28 @@ MayBeAssigned (Some places) w e seen = MayBeReplaced seen (subs_held w e places)
 abbrev pub HasPassed : Evaluation → Evaluation → Bool → Type 0
 HasPassed before after true = parts_left after < parts_left before
 HasPassed before after false = after ≡ before
+
+-- the next part is this node
+abbrev pub IsNext : Evaluation → PlainNode → Type 0
+IsNext e n = option_map plain_part (slice_get (parts_of e) e.at) ≡ Some n
+
+-- a node does this, or something else
+abbrev pub IsStepOf : PlainNode → PlainStep → Type 0
+IsStepOf n step.Parentheses = (k : ℕ) × (n ≡ node.paren k)
+IsStepOf n (step.Applies verb has_left has_axis) = (left : Option ℕ) × (right : ℕ) × (axis : Option ℕ) × (n ≡ node.apply (fun.Verb verb) left right axis) × (is_some left ≡ has_left) × (is_some axis ≡ has_axis)
+IsStepOf n (step.Assigns name) = (right : ℕ) × (n ≡ node.assign name right)
+IsStepOf n step.Other = Unit {0}
+
+-- no value is wanting, and the next part does this
+pub record DoesNext (e : Evaluation) (next : PlainStep) : Type 0 where
+  pub there : e.is_wanting ≡ false
+  pub which : PlainNode
+  pub is : IsNext e which
+  pub does : IsStepOf which next
+
+-- the next part does this, or something else
+abbrev pub IsNextStep : Evaluation → PlainStep → Type 0
+IsNextStep e step.Parentheses = DoesNext e step.Parentheses
+IsNextStep e (step.Applies verb has_left has_axis) = DoesNext e (step.Applies verb has_left has_axis)
+IsNextStep e (step.Assigns name) = DoesNext e (step.Assigns name)
+IsNextStep e step.Other = Unit {0}

@@ -5,8 +5,10 @@ mod applying;
 mod flow;
 pub mod laws;
 mod machine;
+mod passing;
 mod stepping;
 mod threads;
+mod verbs;
 
 pub use apl_acts::{LineRead, hear_alone, read_line};
 pub use flow::Stop;

@@ -180,7 +180,8 @@ impl Machine {
     }
 
     // What is done first: the line is begun, or an act has its answer. A report of a line that may not begin, that of an answer
-    // which ends the line, and WS FULL where an own copy does not fit, come also where there is no memory.
+    // which ends the line, VALUE ERROR for a use without a value, and WS FULL where an own copy or a list does not fit, come also
+    // where there is no memory.
     fn first_flow(&mut self) -> Result<Flow, Fail>
         requires { MayRun self.old.stage }
         ensures comes { Comes self.old.interpreter (still_to_come self.old) 0 self.new.interpreter result }

@@ -1,4 +1,5 @@
-ghost use Rattle.std.specs.Prelude.{◌≡◌, ◌+◌, ◌-◌, ◌<◌, ◌≤◌, None, true, false, IfErr, IfOk, IfSome, OnOk, length, option_map, slice_get};
+ghost use Rattle.std.specs.Prelude.{◌≡◌, ◌+◌, ◌-◌, ◌<◌, ◌≤◌, None, Some, true, false, IfErr, IfOk, IfSome, OnOk, length, option_map, pos, slice_get};
+ghost use Rattle.apl_arrays.specs.Array.{scalar};
 ghost use Rattle.apl_arrays.specs.declared.report.Fail.TheVariants as fail;
 ghost use Rattle.apl_arrays.specs.declared.report.Report.TheVariants as report;
 ghost use Rattle.apl_items.specs.Answers.{first_report};
@@ -6,7 +7,8 @@ ghost use Rattle.apl_items.specs.Places.{OnWantOfMemory};
 ghost use Rattle.apl_selection.specs.Indexing.{index_faults};
 ghost use Rattle.apl_workspace.specs.Workspace.{look};
 ghost use Rattle.apl_meaning.specs.Expressions.{valued};
-ghost use Rattle.apl_meaning.specs.Nodes.{indexed_step};
+ghost use Rattle.line_trees.specs.Nodes.{PlainNode};
+ghost use Rattle.apl_meaning.specs.Nodes.{indexed_step, node_step};
 ghost use Rattle.apl_meaning.specs.Variables.{reference};
 ghost use Rattle.apl_values.specs.Parts.{is_paren, plain_part};
 ghost use Rattle.apl_values.specs.Values.{IsStackValue, stack_value};
@@ -16,12 +18,15 @@ ghost use Rattle.apl_statements.specs.Sound.{IsCaller, IsEvaluation, IsFlow, IsP
 ghost use Rattle.apl_statements.specs.Stack.{assignment_step, onward};
 ghost use Rattle.apl_statements.specs.Holding.{parts_of, stack_values};
 ghost use Rattle.apl_statements.specs.Wants.{NoReportIsDue};
-ghost use Rattle.apl_statements.specs.Work.{Falls, StaysWithin, TakesAStep};
+ghost use Rattle.apl_statements.specs.Work.{Falls, StaysWithin, TakesAStep, machine_work};
 ghost use Rattle.apl_statements.specs.declared.flow.Flow.TheVariants as flow;
 ghost use Rattle.apl_subscripts.specs.Held.{subs_held};
-ghost use Rattle.apl_machine.specs.Nexts.{HasPassed, IsNextStackValue, IsValueSeen, MayBeAssigned};
+ghost use Rattle.apl_answers.specs.WentOn.{went_on};
+ghost use Rattle.apl_machine.specs.Nexts.{HasPassed, IsHeldFor, IsNextStackValue, MayBeAssigned};
+ghost use Rattle.apl_machine.specs.Wants.{looks_first, no_lines};
 
 use crate::applying::perform;
+use crate::passing::pass_step;
 use apl_answers::{assign, assign_items};
 use apl_arrays::{Array, Fail, Name, Report, WantOfMemory};
 use apl_calls::{call, end_statement, follow};
@@ -72,7 +77,7 @@ fn evaluate<L: Ledger>(
 {
     let mut e = evaluation;
     'parts: while e.goes_on() {
-        if !pass_plain(interpreter, &mut e)? {
+        if !pass(interpreter, &mut e, steps)? {
             match go_on(interpreter, e, steps)? {
                 Flow::Evaluates(next) => e = next,
                 other => return Ok(other),
@@ -82,8 +87,29 @@ fn evaluate<L: Ledger>(
     end_statement(interpreter, e)
 }
 
-// The next part is done at once where it only gives a value: a constant, or a name that has one. It takes memory for
-// the value.
+// The next part is done where the statement stands, if it only gives a value, or the statement goes on behind it in any case. It
+// tells whether it was done; where it was not, nothing has changed.
+fn pass<L: Ledger>(
+    interpreter: &mut Interpreter,
+    e: &mut Evaluation,
+    steps: &mut Steps<L>,
+) -> Result<bool, Fail>
+    requires sound { IsEvaluation interpreter.old.workspace e.old }
+    requires next { e.old.at < length (parts_of e.old) }
+    ensures rises { steps.old ≤ steps.new }
+    ensures comes { Comes interpreter.old (λ s. onward (evaluation_of interpreter.old.workspace e.old) interpreter.old.stack s) (steps.new - steps.old) interpreter.new (went_on e.new result) }
+    ensures sound { OnOk result (IsEvaluation interpreter.new.workspace e.new) }
+    ensures work { OnOk result (machine_work interpreter.new ≡ machine_work interpreter.old) }
+    ensures passed { IfOk result (HasPassed e.old e.new) }
+{
+    if pass_plain(interpreter, e)? {
+        return Ok(true);
+    }
+    pass_step(interpreter, e, steps)
+}
+
+// The next part is done at once where it only gives a value: a constant, or a name that has one or is a label. It takes
+// memory for the value.
 fn pass_plain(interpreter: &Interpreter, e: &mut Evaluation) -> Result<bool, WantOfMemory>
     requires sound { IsEvaluation interpreter.now.workspace e.old }
     requires next { e.old.at < length (parts_of e.old) }
@@ -101,7 +127,7 @@ fn pass_plain(interpreter: &Interpreter, e: &mut Evaluation) -> Result<bool, Wan
     }
 }
 
-// The value that the next part gives, where it is a constant, or a name that has one.
+// The value that the next part gives, where it is a constant, or a name that has one or is a label.
 fn next_held(interpreter: &Interpreter, e: &Evaluation) -> Option<StackValue>
     requires sound { IsEvaluation interpreter.now.workspace e.now }
     requires next { e.now.at < length (parts_of e.now) }
@@ -119,14 +145,22 @@ fn next_held(interpreter: &Interpreter, e: &Evaluation) -> Option<StackValue>
     }
 }
 
-// A name as a value, where it has one.
+// A name as a value, where it has one or is a label.
 fn held_of(interpreter: &Interpreter, name: Name) -> Option<StackValue>
-    ensures { IfSome result (λ held. (held ≡ StackValue.Named name) × IsValueSeen (look interpreter.now.workspace name)) }
+    ensures { IfSome result (IsHeldFor (look interpreter.now.workspace name) name) }
 {
     match interpreter.workspace.look(&name) {
         Seen::Value(_) => Some(StackValue::Named(name)),
+        Seen::Label(line) => Some(StackValue::Made(number_of(line))),
         _ => None,
     }
+}
+
+// The number of a line, as an array.
+fn number_of(line: u32) -> Array
+    ensures { result ≡ scalar (pos line) }
+{
+    Array::of_number(i64::from(line))
 }
 
 // A statement goes on with its next part.
@@ -149,7 +183,8 @@ fn go_on<L: Ledger>(
     }
 }
 
-// A part takes the values that it needs, and gives one.
+// A part takes the values that it needs, and gives one. A report comes also where there is no memory, but for that of ⍕, of an
+// assignment, and of what has subscripts.
 fn step<L: Ledger>(
     interpreter: &mut Interpreter,
     e: Evaluation,
@@ -159,6 +194,7 @@ fn step<L: Ledger>(
     requires next { e.at < length (parts_of e) }
     ensures rises { steps.old ≤ steps.new }
     ensures comes { Comes interpreter.old (λ s. onward (evaluation_of interpreter.old.workspace e) interpreter.old.stack s) (steps.new - steps.old) interpreter.new result }
+    ensures memory { (n : PlainNode) → option_map plain_part (slice_get (parts_of e) e.at) ≡ Some n → looks_first n ≡ true → OnWantOfMemory result (NoReportIsDue interpreter.old (node_step no_lines n (stack_values interpreter.old.workspace e))) }
     ensures sound { IfOk result (IsFlow interpreter.new) }
     ensures within { IfOk result (TakesAStep interpreter.old e interpreter.new) }
 {

@@ -21,8 +21,9 @@ use Rattle.apl_statements.specs.Evaluating.{caller_of}
 use Rattle.apl_statements.specs.Interpreter.{PlainInterpreter, here, state_at}
 use Rattle.apl_statements.specs.Moves.{Comes, part_gives}
 use Rattle.apl_statements.specs.Stack.{carried_on}
-use Rattle.apl_statements.specs.Wants.{CopyFits}
+use Rattle.apl_statements.specs.Wants.{CopyFits, NoReportIsDue}
 use Rattle.apl_statements.proofs.Same.{comes_as}
+use Rattle.apl_answers.specs.Brought.{BringsEnough}
 use Rattle.apl_answers.proofs.Wanting.{row_brings_no_copy}
 use Rattle.apl_answers.proofs.answering.bring.Goals as goal
 
@@ -94,3 +95,35 @@ pub returns-in-Names-clause-room : goal.returns-in-Names-clause-room
 returns-in-Names-clause-room c =
     let w : PlainWorkspace = c.args.interpreter.now.workspace in
     subst (λ (for_this : ActPurpose). OnWantOfMemory c.list_names.result (CopyFits w (act_for_purpose (plain_act_purpose for_this) w) (plain_answer c.args.answer))) (sym c.in-Names.is) (on_want c.list_names.result _ tt)
+
+pub returns-in-Refers-clause-brings : goal.returns-in-Refers-clause-brings
+returns-in-Refers-clause-brings c =
+    let m : PlainInterpreter = c.args.interpreter.now in
+    subst (λ (for_this : ActPurpose). OnWantOfMemory c.bring_value.result (BringsEnough m (plain_act_purpose for_this) (plain_answer c.args.answer))) (sym c.in-Refers.is) c.bring_value.ensures.memory
+
+pub returns-in-Sets-clause-brings : goal.returns-in-Sets-clause-brings
+returns-in-Sets-clause-brings c =
+    let m : PlainInterpreter = c.args.interpreter.now in
+    subst (λ (for_this : ActPurpose). OnWantOfMemory c.bring_grant.result (BringsEnough m (plain_act_purpose for_this) (plain_answer c.args.answer))) (sym c.in-Sets.is) (on_want c.bring_grant.result _ tt)
+
+pub returns-in-Replaces-clause-brings : goal.returns-in-Replaces-clause-brings
+returns-in-Replaces-clause-brings c =
+    let m : PlainInterpreter = c.args.interpreter.now in
+    subst (λ (for_this : ActPurpose). OnWantOfMemory c.bring_items.result (BringsEnough m (plain_act_purpose for_this) (plain_answer c.args.answer))) (sym c.in-Replaces.is) c.bring_items.ensures.memory
+
+pub returns-in-Row-clause-brings : goal.returns-in-Row-clause-brings
+returns-in-Row-clause-brings c =
+    let m : PlainInterpreter = c.args.interpreter.now in
+    subst (λ (for_this : ActPurpose). OnWantOfMemory c.bring_row.result (BringsEnough m (plain_act_purpose for_this) (plain_answer c.args.answer))) (sym c.in-Row.is) (on_want c.bring_row.result _ tt)
+
+pub returns-in-Parties-clause-brings : goal.returns-in-Parties-clause-brings
+returns-in-Parties-clause-brings c =
+    let m : PlainInterpreter = c.args.interpreter.now in
+    subst (λ (for_this : ActPurpose). OnWantOfMemory c.list_parties.result (BringsEnough m (plain_act_purpose for_this) (plain_answer c.args.answer))) (sym c.in-Parties.is)
+    (subst (λ (list : List ℕ). OnWantOfMemory c.list_parties.result (NoReportIsDue m (list_outcome (party_vector list)))) c.parties_in.ensures c.list_parties.ensures.memory)
+
+pub returns-in-Names-clause-brings : goal.returns-in-Names-clause-brings
+returns-in-Names-clause-brings c =
+    let m : PlainInterpreter = c.args.interpreter.now in
+    subst (λ (for_this : ActPurpose). OnWantOfMemory c.list_names.result (BringsEnough m (plain_act_purpose for_this) (plain_answer c.args.answer))) (sym c.in-Names.is)
+    (subst (λ (list : List (List ℕ)). OnWantOfMemory c.list_names.result (NoReportIsDue m (list_outcome (name_matrix list)))) c.names_in.ensures c.list_names.ensures.memory)

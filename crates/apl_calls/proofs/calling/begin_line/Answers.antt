@@ -1,10 +1,9 @@
-use Rattle.std.proofs.Common.{◌≡◌, ◌<◌, false, sym, subst, ◌∙◌}
+use Rattle.std.proofs.Common.{◌≡◌, false, sym, ◌∙◌}
 use Rattle.std.specs.Prelude.{is_some}
-use Rattle.apl_items.specs.Places.{OnWantOfMemory}
 use Rattle.apl_statements.specs.Evaluating.{evaluation_of, line_of_innermost}
 use Rattle.apl_statements.specs.Interpreter.{PlainInterpreter}
 use Rattle.apl_statements.specs.Stack.{onward}
-use Rattle.apl_calls.proofs.Lines.{left_there, line_comes}
+use Rattle.apl_calls.proofs.Lines.{left_there}
 use Rattle.apl_calls.proofs.calling.begin_line.Goals as goal
 
 pub returns-then-not-has_line-clause-comes : goal.returns-then-not-has_line-clause-comes
@@ -12,14 +11,6 @@ returns-then-not-has_line-clause-comes c =
     let n : PlainInterpreter = c.leave.new.interpreter in
     left_there c.args.interpreter.now n c.args.number (λ s. onward (evaluation_of n.workspace c.in_ok-leave.field-0) n.stack s) (sym c.has_line.ensures ∙ c.if-not-has_line.true) c.in_ok-leave.ensures.comes
 
-pub returns-clause-comes : goal.returns-clause-comes
-returns-clause-comes c =
-    line_comes c.args.interpreter.now c.stand_at_line.new.interpreter c.begin_text_of_line.new.interpreter c.args.number c.begin_text_of_line.result c.stand_at_line.ensures (sym c.has_line.ensures ∙ c.if-not-has_line.false) c.begin_text_of_line.ensures.comes
-
 pub returns-in_err-leave-clause-memory : goal.returns-in_err-leave-clause-memory
 returns-in_err-leave-clause-memory c some =
     let none : is_some (line_of_innermost c.args.interpreter.now.stack c.args.number) ≡ false = sym c.has_line.ensures ∙ c.if-not-has_line.true in absurd (cc)
-
-pub returns-clause-memory : goal.returns-clause-memory
-returns-clause-memory c some =
-    subst (λ (x : PlainInterpreter). OnWantOfMemory c.begin_text_of_line.result (0 < x.statements)) c.stand_at_line.ensures c.begin_text_of_line.ensures.memory

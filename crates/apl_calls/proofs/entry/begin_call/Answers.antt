@@ -34,14 +34,14 @@ returns-then-has_line-clause-comes c =
     let before : Evaluation = c.args.caller in
     let with : IsWithValues before (map (settled m.workspace) before.values.items) c.settle.new.self =
     subst (λ (x : PlainInterpreter). IsWithValues before (map (settled x.workspace) before.values.items) c.settle.new.self) c.interpreter.view_is c.in_ok-settle.ensures in
-    comes_after m mid c.begin_line.new.interpreter (part_gives m before (λ s. call ran c.args.name c.args.args s)) (from_line mid.stack 1) 0 c.begin_line.result
-    (settled_enters m mid before c.settle.new.self c.args.name c.args.args c.requires.takes with c.in_ok-enter.ensures.done c.in_ok-enter.ensures.stack) c.begin_line.ensures.comes
+    comes_after m mid c.begin_line_there.new.interpreter (part_gives m before (λ s. call ran c.args.name c.args.args s)) (from_line mid.stack 1) 0 c.begin_line_there.result
+    (settled_enters m mid before c.settle.new.self c.args.name c.args.args c.requires.takes with c.in_ok-enter.ensures.done c.in_ok-enter.ensures.stack) c.begin_line_there.ensures.comes
 
 pub returns-then-has_line-clause-within : goal.returns-then-has_line-clause-within
 returns-then-has_line-clause-within c =
     let m : PlainInterpreter = c.args.interpreter.now in
-    falls_entered (parts_left c.args.caller) m c.enter.new.interpreter c.begin_line.new.interpreter (at_line (function_by (look m.workspace c.args.name)) 0 (caller_of empty_workspace (here m) c.settle.new.self)) c.begin_line.result
-    (ap (λ (x : PlainInterpreter). x.statements) c.in_ok-enter.ensures.beside) c.in_ok-enter.ensures.stack c.begin_line.ensures.afresh (c.begin_line.ensures.begun (sym c.has_line.ensures ∙ c.if-has_line.true))
+    falls_entered (parts_left c.args.caller) m c.enter.new.interpreter c.begin_line_there.new.interpreter (at_line (function_by (look m.workspace c.args.name)) 0 (caller_of empty_workspace (here m) c.settle.new.self)) c.begin_line_there.result
+    (ap (λ (x : PlainInterpreter). x.statements) c.in_ok-enter.ensures.beside) c.in_ok-enter.ensures.stack c.begin_line_there.ensures.afresh c.begin_line_there.ensures.falls
 
 pub returns-in_ok-leave-clause-comes : goal.returns-in_ok-leave-clause-comes
 returns-in_ok-leave-clause-comes c =

@@ -1,16 +1,19 @@
 use Rattle.std.proofs.Common.{◌≡◌, ◌-◌, Bool, refl, sym, ap, subst, ◌∙◌, arith}
 use Rattle.std.specs.Prelude.{ℕ, None, Option, Some, is_some, List, option_map, slice_get}
-use Rattle.apl_arrays.specs.Array.{PlainItems, plain_items}
+use Rattle.apl_arrays.specs.Array.{PlainArray, PlainItems, plain_items}
 use Rattle.apl_arrays.specs.declared.report.Report.TheVariants.{WsFull}
+use Rattle.apl_items.proofs.RowLemmas.{weaker_want}
+use Rattle.apl_selection.proofs.WantLemmas.{on_want}
 use Rattle.apl_workspace.specs.declared.args.Args.{Args}
 use Rattle.line_trees.specs.Nodes as node
 use Rattle.line_trees.specs.Nodes.{plain_node}
+use Rattle.line_trees.specs.declared.tree.Fun.{Fun}
 use Rattle.line_trees.specs.declared.tree.Node.{Node}
 use Rattle.line_trees.specs.declared.tree.Node.TheVariants as coded
 use Rattle.apl_meaning.specs.Calls.{call}
 use Rattle.apl_meaning.specs.Expressions.{valued}
 use Rattle.apl_meaning.specs.Meaning.{ran}
-use Rattle.apl_meaning.specs.Nodes.{apply_step, indexed_step}
+use Rattle.apl_meaning.specs.Nodes.{apply_step, indexed_step, node_step}
 use Rattle.apl_meaning.specs.State.{gives, refuses}
 use Rattle.apl_meaning.specs.Variables.{reference}
 use Rattle.apl_values.specs.declared.values.StackValue.TheVariants as held
@@ -20,10 +23,15 @@ use Rattle.apl_statements.specs.declared.evaluation.Evaluation.{Evaluation}
 use Rattle.apl_statements.specs.Interpreter.{PlainInterpreter, state_at}
 use Rattle.apl_statements.specs.Moves.{if_there, part_gives, part_takes}
 use Rattle.apl_statements.specs.Stack.{assignment_step}
-use Rattle.apl_statements.specs.Holding.{parts_of}
+use Rattle.apl_statements.specs.Holding.{parts_of, stack_values}
+use Rattle.apl_statements.specs.Wants.{NoReportIsDue}
 use Rattle.apl_statements.proofs.Moving.{moved_none, none_counted}
 use Rattle.apl_statements.proofs.Same.{at_once, comes_as}
-use Rattle.apl_machine.proofs.StepParts.{IsNext, next_apply, next_assign, next_constant, next_gives, next_paren, next_takes, next_too_large, passed, read_next, read_part, read_sound, to_come}
+use Rattle.apl_machine.specs.Nexts.{IsNext}
+use Rattle.apl_machine.proofs.StepParts.{next_apply, next_assign, next_constant, next_gives, next_paren, next_takes, next_too_large, passed, read_next, read_part, read_sound, to_come}
+use Rattle.apl_calls.specs.Callings.{MayBeCalled}
+use Rattle.apl_machine.specs.Wants.{no_lines}
+use Rattle.apl_machine.proofs.WantSteps.{apply_free, apply_looks, assign_late, constant_free, niladic_free, node_free, not_first, value_free}
 use Rattle.apl_machine.proofs.stepping.step.Given.{Over}
 use Rattle.apl_machine.proofs.stepping.step.Goals as goal
 use Rattle.apl_machine.proofs.stepping.step.Goals.{After-index, In-Other}
@@ -113,3 +121,70 @@ returns-in_ok-places-in-Assign-clause-comes g c =
     (comes_as m c.assign_to.new.interpreter (to_come m e) (part_takes m (passed e) (assignment_step c.in-Assign.target (option_map (λ places. places.items) c.in_ok-places-in-Assign.places))) 0 c.assign_to.result (λ asked count taken further.
     next_assign m e c.in-Assign.target c.in-Assign.subs c.in-Assign.right next c.requires.sound.there asked count taken further
     ∙ ap (λ (places : Option (List (Option ℕ))). part_takes m (passed e) (assignment_step c.in-Assign.target places) (state_at m asked count taken further)) (sym c.in_ok-places-in-Assign.ensures)) c.assign_to.ensures.comes)
+
+-- ---- where memory ran out
+
+-- no report of a function is due, but what its lines tell
+abbrev due : PlainInterpreter → Fun → List PlainArray → Bool → Bool → Type 0
+due m f values left axis = NoReportIsDue m (apply_step no_lines f (if_there left) (if_there axis) values)
+
+pub returns-in-Constant-clause-memory : goal.returns-in-Constant-clause-memory
+returns-in-Constant-clause-memory g c n next first =
+    let m : PlainInterpreter = c.args.interpreter.now in
+    let e : Evaluation = c.args.e in
+    let here : slice_get (parts_of e) e.at ≡ Some c.index.result.now = here_is g (goal.at.returns-in-Constant-clause-memory g c).After-index in
+    let own : IsNext e (node.constant c.in-Constant.field-0.items) = ap (option_map plain_part) (here ∙ ap (λ part. Some part) c.in-Constant.is) in
+    on_want c.give.result (NoReportIsDue m (node_step no_lines n (stack_values m.workspace e)))
+    (node_free m e (node.constant c.in-Constant.field-0.items) n (stack_values m.workspace e) own next
+    (constant_free m c.in-Constant.field-0 (stack_values m.workspace e) (subst IsPart c.in-Constant.is (read_sound e c.index.result.now here c.requires.sound.evaluation.reading.parts))))
+
+pub returns-in-Value-clause-memory : goal.returns-in-Value-clause-memory
+returns-in-Value-clause-memory g c n next first =
+    let m : PlainInterpreter = c.args.interpreter.now in
+    let e : Evaluation = c.args.e in
+    let own : IsNext e (node.value c.in-Value.name) = next_is g (goal.at.returns-in-Value-clause-memory g c).In-Other (coded.Value c.in-Value.name) c.in-Value.is in
+    weaker_want c.refer.result (NoReportIsDue m (reference c.in-Value.name)) (NoReportIsDue m (node_step no_lines n (stack_values m.workspace e)))
+    (λ free. node_free m e (node.value c.in-Value.name) n (stack_values m.workspace e) own next (value_free m c.in-Value.name (stack_values m.workspace e) free)) c.refer.ensures.memory
+
+pub returns-in-Niladic-clause-memory : goal.returns-in-Niladic-clause-memory
+returns-in-Niladic-clause-memory g c n next first =
+    let m : PlainInterpreter = c.args.interpreter.now in
+    let e : Evaluation = c.args.e in
+    let own : IsNext e (node.niladic c.in-Niladic.name) = next_is g (goal.at.returns-in-Niladic-clause-memory g c).In-Other (coded.Niladic c.in-Niladic.name) c.in-Niladic.is in
+    weaker_want c.call.result (MayBeCalled m.workspace c.in-Niladic.name c.no_arguments.result) (NoReportIsDue m (node_step no_lines n (stack_values m.workspace e)))
+    (λ may. node_free m e (node.niladic c.in-Niladic.name) n (stack_values m.workspace e) own next
+    (niladic_free m c.in-Niladic.name (stack_values m.workspace e) (subst (MayBeCalled m.workspace c.in-Niladic.name) c.no_arguments.ensures may))) c.call.ensures.memory
+
+pub returns-in_err-places-in-Indexed-clause-memory : goal.returns-in_err-places-in-Indexed-clause-memory
+returns-in_err-places-in-Indexed-clause-memory g c n next first =
+    let own : IsNext c.args.e (node.indexed c.in-Indexed.value c.in-Indexed.subs.items) = next_is g (goal.at.returns-in_err-places-in-Indexed-clause-memory g c).In-Other (coded.Indexed c.in-Indexed.value c.in-Indexed.subs) c.in-Indexed.is in
+    absurd (not_first c.args.e (node.indexed c.in-Indexed.value c.in-Indexed.subs.items) n own next refl first)
+
+pub returns-in_ok-places-in-Indexed-clause-memory : goal.returns-in_ok-places-in-Indexed-clause-memory
+returns-in_ok-places-in-Indexed-clause-memory g c n next first =
+    let own : IsNext c.args.e (node.indexed c.in-Indexed.value c.in-Indexed.subs.items) = next_is g (goal.at.returns-in_ok-places-in-Indexed-clause-memory g c).In-Other (coded.Indexed c.in-Indexed.value c.in-Indexed.subs) c.in-Indexed.is in
+    absurd (not_first c.args.e (node.indexed c.in-Indexed.value c.in-Indexed.subs.items) n own next refl first)
+
+pub returns-in-Apply-clause-memory : goal.returns-in-Apply-clause-memory
+returns-in-Apply-clause-memory g c n next first =
+    let m : PlainInterpreter = c.args.interpreter.now in
+    let e : Evaluation = c.args.e in
+    let values : List PlainArray = stack_values m.workspace e in
+    let own : IsNext e (node.apply c.in-Apply.function c.in-Apply.left c.in-Apply.right c.in-Apply.axis) = next_is g (goal.at.returns-in-Apply-clause-memory g c).In-Other (coded.Apply c.in-Apply.function c.in-Apply.left c.in-Apply.right c.in-Apply.axis) c.in-Apply.is in
+    let has_left : is_some c.in-Apply.left ≡ c.is_some-has_left.result = cc in
+    let has_axis : is_some c.in-Apply.axis ≡ c.is_some-has_axis.result = cc in
+    weaker_want c.perform.result (due m c.in-Apply.function values c.is_some-has_left.result c.is_some-has_axis.result) (NoReportIsDue m (node_step no_lines n values))
+    (λ free. node_free m e (node.apply c.in-Apply.function c.in-Apply.left c.in-Apply.right c.in-Apply.axis) n values own next
+    (apply_free m c.in-Apply.function c.in-Apply.left c.in-Apply.right c.in-Apply.axis values
+    (subst (λ (b : Bool). due m c.in-Apply.function values (is_some c.in-Apply.left) b) (sym has_axis) (subst (λ (b : Bool). due m c.in-Apply.function values b c.is_some-has_axis.result) (sym has_left) free))))
+    (c.perform.ensures.memory (apply_looks e c.in-Apply.function c.in-Apply.left c.in-Apply.right c.in-Apply.axis n own next first))
+
+pub returns-in_err-places-in-Assign-clause-memory : goal.returns-in_err-places-in-Assign-clause-memory
+returns-in_err-places-in-Assign-clause-memory g c n next first =
+    let own : IsNext c.args.e (plain_node (coded.Assign c.in-Assign.target c.in-Assign.subs c.in-Assign.right)) = next_is g (goal.at.returns-in_err-places-in-Assign-clause-memory g c).In-Other (coded.Assign c.in-Assign.target c.in-Assign.subs c.in-Assign.right) c.in-Assign.is in
+    absurd (not_first c.args.e _ n own next (assign_late c.in-Assign.target c.in-Assign.subs c.in-Assign.right) first)
+
+pub returns-in_ok-places-in-Assign-clause-memory : goal.returns-in_ok-places-in-Assign-clause-memory
+returns-in_ok-places-in-Assign-clause-memory g c n next first =
+    let own : IsNext c.args.e (plain_node (coded.Assign c.in-Assign.target c.in-Assign.subs c.in-Assign.right)) = next_is g (goal.at.returns-in_ok-places-in-Assign-clause-memory g c).In-Other (coded.Assign c.in-Assign.target c.in-Assign.subs c.in-Assign.right) c.in-Assign.is in
+    absurd (not_first c.args.e _ n own next (assign_late c.in-Assign.target c.in-Assign.subs c.in-Assign.right) first)

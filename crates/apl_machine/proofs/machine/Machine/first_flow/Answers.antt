@@ -6,10 +6,11 @@ use Rattle.apl_statements.specs.Wants.{CopyFits}
 use Rattle.apl_values.specs.Pending.{act_for_purpose, plain_act_purpose}
 use Rattle.apl_values.specs.declared.pending.ActPurpose.{ActPurpose}
 use Rattle.sv_events.specs.Answer.{plain_answer}
+use Rattle.apl_answers.specs.Brought.{BringsEnough}
 use Rattle.apl_machine.specs.declared.machine.Stage.{Stage}
 use Rattle.apl_machine.specs.declared.machine.Stage.TheVariants as stage
 use Rattle.apl_machine.specs.Machine.{MayWantMemory, PlainMachine, plain_stage, stage_to_come, still_to_come}
-use Rattle.apl_machine.proofs.WantParts.{both_on_want}
+use Rattle.apl_machine.proofs.WantParts.{all_on_want}
 use Rattle.apl_machine.proofs.machine.Machine.first_flow.Goals as goal
 
 pub returns-in-Begins-clause-comes : goal.returns-in-Begins-clause-comes
@@ -32,5 +33,7 @@ returns-in-Answered-clause-memory c =
     let is : stage.Answered c.in-Answered.answer c.in-Answered.pending c.in-Answered.evaluation ≡ c.self.inside.stage = sym c.in-Answered.is ∙ c.replace.ensures.value in
     let room : OnWantOfMemory c.bring.result (CopyFits i.workspace (act_for_purpose (plain_act_purpose c.in-Answered.pending.value) i.workspace) (plain_answer c.in-Answered.answer)) =
     subst (λ (p : ActPurpose). OnWantOfMemory c.bring.result (CopyFits i.workspace (act_for_purpose (plain_act_purpose p) i.workspace) (plain_answer c.in-Answered.answer))) c.into_inner.ensures c.bring.ensures.room in
+    let brings : OnWantOfMemory c.bring.result (BringsEnough i (plain_act_purpose c.in-Answered.pending.value) (plain_answer c.in-Answered.answer)) =
+    subst (λ (p : ActPurpose). OnWantOfMemory c.bring.result (BringsEnough i (plain_act_purpose p) (plain_answer c.in-Answered.answer))) c.into_inner.ensures c.bring.ensures.brings in
     subst (λ (x : PlainMachine). OnWantOfMemory c.bring.result (MayWantMemory x.interpreter x.stage)) c.self.view_is
-    (subst (λ (st : Stage). OnWantOfMemory c.bring.result (MayWantMemory i (plain_stage i.workspace (here i) st))) is (both_on_want c.bring.result _ _ c.bring.ensures.memory room))
+    (subst (λ (st : Stage). OnWantOfMemory c.bring.result (MayWantMemory i (plain_stage i.workspace (here i) st))) is (all_on_want c.bring.result _ _ _ c.bring.ensures.memory room brings))

@@ -1,0 +1,86 @@
+use Rattle.std.proofs.Common.{◌≡◌, ◌-◌, refl, ap, subst, arith}
+use Rattle.std.specs.Prelude.{Bool, Some, Result, Ok, Err}
+use Rattle.std.proofs.lemmas.Result.{err_from_is_err_and}
+use Rattle.apl_arrays.specs.Array.{PlainArray}
+use Rattle.apl_arrays.specs.declared.report.Fail.{Fail}
+use Rattle.apl_arrays.specs.declared.report.Report.TheVariants.{Value}
+use Rattle.apl_selection.proofs.WantLemmas.{on_want}
+use Rattle.apl_verbs.specs.declared.verb.Verb.{Verb}
+use Rattle.line_trees.specs.declared.tree.Fun.TheVariants as fun
+use Rattle.apl_meaning.specs.Meaning.{ran}
+use Rattle.apl_meaning.specs.Nodes.{apply_step}
+use Rattle.apl_meaning.specs.State.{gives, refuses}
+use Rattle.apl_values.specs.declared.values.StackValue.TheVariants as held
+use Rattle.apl_statements.specs.declared.evaluation.Evaluation.{Evaluation}
+use Rattle.apl_statements.specs.declared.flow.Flow.TheVariants as flow
+use Rattle.apl_statements.specs.Interpreter.{PlainInterpreter, state_at}
+use Rattle.apl_statements.specs.Holding.{stack_values}
+use Rattle.apl_statements.specs.Moves.{Coming, if_there, part_gives, part_takes}
+use Rattle.apl_statements.specs.Wants.{NoReportIsDue}
+use Rattle.apl_statements.proofs.Gives.{push_comes}
+use Rattle.apl_statements.proofs.Moving.{comes_then, moved_none}
+use Rattle.apl_statements.proofs.Same.{at_once, comes_exit}
+use Rattle.apl_statements.proofs.Wants.{want_exit}
+use Rattle.apl_answers.specs.WentOn.{went_on}
+use Rattle.apl_machine.specs.Given.{ComesToGive}
+use Rattle.apl_machine.specs.Wants.{UnlessReport, no_lines}
+use Rattle.apl_machine.proofs.Gives.{given_refused}
+use Rattle.apl_machine.proofs.OperandsThere.{oldest_sound}
+use Rattle.apl_machine.proofs.Performs.{performs_none}
+use Rattle.apl_machine.proofs.WantPerforms.{want_told}
+use Rattle.apl_machine.proofs.verbs.perform_verb.Goals as goal
+
+-- what is still to come of a function of these arguments
+abbrev taking : PlainInterpreter → Evaluation → Verb → Bool → Bool → Coming
+taking m e verb has_left has_axis = part_takes m e (apply_step ran (fun.Verb verb) (if_there has_left) (if_there has_axis))
+
+pub returns-in-None-clause-comes : goal.returns-in-None-clause-comes
+returns-in-None-clause-comes g c =
+    let m : PlainInterpreter = c.args.interpreter.now in
+    let e : Evaluation = c.args.e.now in
+    let coming : Coming = taking m e c.args.verb c.args.has_left c.args.has_axis in
+    moved_none m m coming (λ s. refuses Value s) (c.args.steps.now - c.args.steps.now) (omega arith)
+    (at_once m coming (λ s. refuses Value s) (λ asked count taken further. performs_none m e (fun.Verb c.args.verb) c.args.has_left c.args.has_axis (state_at m asked count taken further) (c.in-None.ensures.none refl)))
+
+pub returns-in_err-array-in-Some-clause-comes : goal.returns-in_err-array-in-Some-clause-comes
+returns-in_err-array-in-Some-clause-comes g c =
+    let m : PlainInterpreter = c.args.interpreter.now in
+    let e : Evaluation = c.args.e.now in
+    let coming : Coming = taking m e c.args.verb c.args.has_left c.args.has_axis in
+    let counted = c.verb_of-given.new.steps - c.args.steps.now in
+    let under : Evaluation = c.keep_oldest.new.e in
+    let exit = err_from_is_err_and c.from_residual.result c.from_residual.ensures.1 in
+    let why : exit.0 ≡ c.in_err-array-in-Some.field-0.0 = cc exit.2 in
+    let came : ComesToGive m coming counted under (Err c.in_err-array-in-Some.field-0.0) = subst (λ (r : Result PlainArray Fail). ComesToGive m coming counted under r) c.in_err-array-in-Some.was (c.verb_of-given.ensures.gives under c.keep_oldest.ensures) in
+    comes_exit m m coming counted (went_on under c.from_residual.result) exit.0 c.in_err-array-in-Some.field-0.0 (ap (λ (r : Result (Unit {0}) Fail). went_on under r) exit.1) why (given_refused m coming counted under c.in_err-array-in-Some.field-0.0 came)
+
+pub returns-in_ok-push-in-Some-clause-comes : goal.returns-in_ok-push-in-Some-clause-comes
+returns-in_ok-push-in-Some-clause-comes g c =
+    let m : PlainInterpreter = c.args.interpreter.now in
+    let e : Evaluation = c.args.e.now in
+    let coming : Coming = taking m e c.args.verb c.args.has_left c.args.has_axis in
+    let counted = c.verb_of-given.new.steps - c.args.steps.now in
+    let under : Evaluation = c.keep_oldest.new.e in
+    let array : PlainArray = c.in_ok-array-in-Some.array in
+    comes_then m m m coming (part_gives m under (λ s. gives (Some array) s)) counted (Ok (flow.Evaluates c.push.new.self))
+    (subst (λ (r : Result PlainArray Fail). ComesToGive m coming counted under r) c.in_ok-array-in-Some.was (c.verb_of-given.ensures.gives under c.keep_oldest.ensures))
+    (push_comes m under c.push.new.self (held.Made array) (oldest_sound m.workspace e under c.in-Some.first c.keep_oldest.ensures c.requires.sound) c.in_ok-push-in-Some.ensures)
+
+-- ---- where memory ran out
+
+-- no report of a function of these arguments is due
+abbrev due : PlainInterpreter → Evaluation → Verb → Bool → Bool → Type 0
+due m e verb has_left has_axis = NoReportIsDue m (apply_step no_lines (fun.Verb verb) (if_there has_left) (if_there has_axis) (stack_values m.workspace e))
+
+pub returns-in_err-array-in-Some-clause-memory : goal.returns-in_err-array-in-Some-clause-memory
+returns-in_err-array-in-Some-clause-memory g c first =
+    let fact : Type 0 = due c.args.interpreter.now c.args.e.now c.args.verb c.args.has_left c.args.has_axis in
+    let exit = err_from_is_err_and c.from_residual.result c.from_residual.ensures.1 in
+    let why : exit.0 ≡ c.in_err-array-in-Some.field-0.0 = cc exit.2 in
+    want_exit c.from_residual.result exit.0 c.in_err-array-in-Some.field-0.0 fact exit.1 why
+    (want_told PlainArray (Unit {0}) c.in_err-array-in-Some.field-0.0 fact (subst (λ (r : Result PlainArray Fail). UnlessReport r fact) c.in_err-array-in-Some.was (c.verb_of-given.ensures.memory first)))
+
+pub returns-in_err-push-in-Some-clause-memory : goal.returns-in_err-push-in-Some-clause-memory
+returns-in_err-push-in-Some-clause-memory g c first =
+    let fact : Type 0 = due c.args.interpreter.now c.args.e.now c.args.verb c.args.has_left c.args.has_axis in
+    on_want c.from_residual-in_err-push-in-Some.result fact (subst (λ (r : Result PlainArray Fail). UnlessReport r fact) c.in_ok-array-in-Some.was (c.verb_of-given.ensures.memory first))

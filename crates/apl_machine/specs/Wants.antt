@@ -1,0 +1,38 @@
+-- What holds where memory ran out for a part of a statement.
+use Rattle.std.specs.Prelude.{Bool, true, false, not, Result, Ok, Err}
+use Rattle.apl_arrays.specs.declared.report.Fail.{Fail}
+use Rattle.apl_arrays.specs.declared.report.Fail.TheVariants as fail
+use Rattle.line_trees.specs.Nodes as node
+use Rattle.line_trees.specs.Nodes.{PlainNode}
+use Rattle.line_trees.specs.declared.tree.Fun.{Fun}
+use Rattle.line_trees.specs.declared.tree.Fun.TheVariants as fun
+use Rattle.operator_rules.specs.Apply.{wants_memory_first}
+use Rattle.apl_meaning.specs.State.{gives}
+use Rattle.apl_meaning.specs.Tasks.{Run, goes_on}
+
+-- lines that tell nothing: a function is left as soon as it was entered
+abbrev pub no_lines : Run
+no_lines task s = gives goes_on s
+
+-- a function takes memory before it is known whether it has a report
+abbrev pub takes_memory_first : Fun → Bool
+takes_memory_first (fun.Verb verb) = wants_memory_first verb
+takes_memory_first (fun.Defined name) = false
+takes_memory_first (fun.System name) = false
+
+-- a part of a statement takes no memory before it is known whether it has a report; of an assignment, and of what has subscripts, this is not said
+abbrev pub looks_first : PlainNode → Bool
+looks_first (node.constant items) = true
+looks_first (node.value name) = true
+looks_first (node.niladic name) = true
+looks_first (node.paren k) = true
+looks_first (node.indexed v places) = false
+looks_first (node.apply f left right axis) = not (takes_memory_first f)
+looks_first (node.assign name right) = false
+looks_first (node.assign_at name places right) = false
+
+-- a fact holds unless a report is told
+abbrev pub UnlessReport : {T : Type 0} → Result T Fail → Type 0 → Type 0
+UnlessReport (Ok value) fact = fact
+UnlessReport (Err (fail.Report report)) fact = Unit {0}
+UnlessReport (Err fail.WantOfMemory) fact = fact
