@@ -12,11 +12,12 @@ ghost use Rattle.aplsv_top.specs.Headline.{IsOutputAs};
 ghost use Rattle.aplsv_top.specs.Loads.{HasLoadCause, IsLoadAs};
 ghost use Rattle.aplsv_top.specs.Words.{HaveMeaning, IsConclusion};
 ghost use Rattle.aplsv_top.specs.declared.status.Status.TheVariants as status;
+ghost use Rattle.check_rules.specs.declared.verdict.Verdict.{Verdict};
 
 use apl_arrays::{USER_LIMIT, WantOfMemory};
 use apl_io::{Devices, Sink, Source};
 use aplsv_devices::{DirShelf, DirText, OpenGate, StdSink, StdSource, SystemClock};
-use aplsv_top::{Finish, Status, aplsv};
+use aplsv_top::{Finish, Status, aplsv, aplsv_check_words};
 use bundle_text::BundleRule;
 use refusal_lines::{malformed_lines, usage_lines};
 use std::alloc::{AllocError, Global};
@@ -120,7 +121,31 @@ fn run<R: Threads + Wait + Sync, S: Source, W: Sink>(
     )
 }
 
-// How it ends for the words of the process.
+// Whether a check is asked for.
+fn asks_check(words: &[String]) -> bool {
+    words.iter().any(|word| word.as_str() == "--check")
+}
+
+// How it ends over the devices of the machine, for the words of the process.
+fn ending_of_run<R: Threads + Wait + Sync, S: Source, W: Sink>(
+    rt: HostRuntime,
+    threads: &R,
+    words: &[String],
+    input: &mut S,
+    output: &mut W,
+) -> Result<Status, WantOfMemory>
+    ensures unread { IfOk result (λ ending. ending ≡ status.Usage → input.new ≡ input.old) }
+    ensures unwritten { IfOk result (λ ending. ending ≢ status.Done → ending ≢ status.WriteFault → output.new ≡ output.old) }
+    ensures refused { IfErr result (λ _. (input.new ≡ input.old) × (output.new ≡ output.old)) }
+{
+    let devices = devices(rt)?;
+    let finish = run(threads, rt.alloc(), words, input, output, devices);
+    let status = finish.status;
+    drop(finish);
+    Ok(status)
+}
+
+// How it ends for the words of the process: a check, where one is asked for, and else a run.
 fn ending<R: Threads + Wait + Sync, S: Source, W: Sink>(
     rt: HostRuntime,
     threads: &R,
@@ -129,15 +154,15 @@ fn ending<R: Threads + Wait + Sync, S: Source, W: Sink>(
     output: &mut W,
 ) -> Result<Status, WantOfMemory>
     ensures unread { IfOk result (λ ending. ending ≡ status.Usage → input.new ≡ input.old) }
-    ensures unwritten { IfOk result (λ ending. ending ≢ status.Done → ending ≢ status.WriteFault → output.new ≡ output.old) }
+    ensures unwritten { IfOk result (λ ending. ending ≢ status.Done → ending ≢ status.WriteFault → ((found : Verdict) → ending ≢ status.NotARun found) → output.new ≡ output.old) }
     ensures refused { IfErr result (λ _. (input.new ≡ input.old) × (output.new ≡ output.old)) }
 {
     let words = all_words(rt.alloc(), given)?;
-    let devices = devices(rt)?;
-    let finish = run(threads, rt.alloc(), &words, input, output, devices);
-    let status = finish.status;
-    drop(finish);
-    Ok(status)
+    if asks_check(behind_name(&words)) {
+        Ok(aplsv_check_words(rt.alloc(), behind_name(&words), input, output))
+    } else {
+        ending_of_run(rt, threads, &words, input, output)
+    }
 }
 
 // The same, where words that are no text have no meaning.
@@ -148,7 +173,7 @@ fn status_of<R: Threads + Wait + Sync, S: Source, W: Sink>(
     output: &mut W,
 ) -> Status
     ensures unread { result ≡ status.Usage → input.new ≡ input.old }
-    ensures unwritten { result ≢ status.Done → result ≢ status.WriteFault → output.new ≡ output.old }
+    ensures unwritten { result ≢ status.Done → result ≢ status.WriteFault → ((found : Verdict) → result ≢ status.NotARun found) → output.new ≡ output.old }
 {
     match env::args(&rt) {
         Ok(given) => match ending(rt, threads, given, input, output) {

@@ -12,6 +12,7 @@ pub fn code_of(ending: &str) -> u8 {
         "write fault" => 4,
         "input too long" => 5,
         "out of memory" => 6,
+        "not a run" => 7,
         _ => 2,
     }
 }

@@ -6,7 +6,7 @@ use crate::gates::Meeting;
 use anyhow::Result;
 use apl_arrays::{Bytes, FileList, List, USER_LIMIT, WantOfMemory};
 use apl_io::{CallNumbers, MemoryClock, MemoryShelf, MemorySink, MemorySource, MemoryText};
-use aplsv_top::{Status, aplsv};
+use aplsv_top::{Status, aplsv, aplsv_check_words};
 use std::alloc::Global;
 use std::sync::Wait;
 use std::thread::Threads;
@@ -47,7 +47,8 @@ fn shelves(alloc: Global) -> Result<Vec<MemoryShelf>, WantOfMemory>
     Ok(shelves)
 }
 
-// What the program ends with over these words, source and sink, past a gate, and over no file, no reading and empty shelves.
+// What the program ends with over these words, source and sink, past a gate, and over no file, no reading and empty shelves,
+// where no check is asked for.
 fn finished<R: Threads + Wait + Sync>(
     threads: &R,
     alloc: Global,
@@ -65,6 +66,27 @@ fn finished<R: Threads + Wait + Sync>(
     let status = finish.status;
     drop(finish);
     Ok(status)
+}
+
+// Whether a check is asked for.
+fn asks_check(words: &[String]) -> bool {
+    words.iter().any(|word| word.as_str() == "--check")
+}
+
+// What the program ends with over these words, source and sink, past a gate.
+fn ended_over<R: Threads + Wait + Sync>(
+    threads: &R,
+    alloc: Global,
+    words: &[String],
+    source: &mut MemorySource,
+    sink: &mut MemorySink,
+    gate: &Meeting,
+) -> Result<Status, WantOfMemory> {
+    if asks_check(words) {
+        Ok(aplsv_check_words(alloc, words, source, sink))
+    } else {
+        finished(threads, alloc, words, source, sink, gate)
+    }
 }
 
 /// How a run ended that left these bytes written.
@@ -92,7 +114,7 @@ fn run_into_sink<R: Threads + Wait + Sync>(
 ) -> Result<ProgramEnd, WantOfMemory> {
     let Device { piece, fails } = case.sink;
     let mut sink = MemorySink::new(alloc, case.room, piece.max(1), numbers(alloc, fails)?)?;
-    let ended = match finished(threads, alloc, words, source, &mut sink, gate) {
+    let ended = match ended_over(threads, alloc, words, source, &mut sink, gate) {
         Ok(status) => ended_as(alloc, status, sink.bytes()),
         Err(WantOfMemory) => Err(WantOfMemory),
     };

@@ -18,7 +18,8 @@ use Rattle.auxiliaries.specs.Served.{Served, forgotten}
 use Rattle.bundle_text.specs.Bundle.{PlainBundle}
 use Rattle.sv_journal.specs.Output.{PlainTranscript}
 use Rattle.sv_rules.specs.Entries.{Entries}
-use Rattle.aplsv_top.specs.Headline.{ShelvedRun, TwentyRun, clock_of, text_store_of}
+use Rattle.bundle_devices.specs.Devices.{clock_of, text_store_of}
+use Rattle.aplsv_top.specs.Headline.{ShelvedRun, TwentyRun}
 use Rattle.aplsv_top.specs.StoredFiles.{files_in, store_of}
 use Rattle.aplsv_top.proofs.OneOfRuns.{ten_is_first, ten_is_second, twenty_is_first, twenty_is_second}
 use Rattle.aplsv_top.proofs.Over.{FilesRun, clock_faults_of, faults_of, ticks_of, told_of}

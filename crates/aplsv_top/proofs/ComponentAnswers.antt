@@ -9,9 +9,9 @@ use Rattle.apl_io.specs.declared.store_error.StoreError.TheVariants.{Failed, Wan
 use Rattle.aux_components.specs.File.{AreComponents, component_asked, components_changed}
 use Rattle.aux_components.specs.Filed.{Filed, IsDone, Replies, TakesStep, forgotten}
 use Rattle.aux_components.specs.Protocol.{AfterAsked, AfterWritten, DueChange, FileState, Finds, IsDue, Step, answers, asks, changes, due_of, idle, protocol_step, refuses, writes}
-use Rattle.aplsv_top.proofs.Determined.{IsDetermined}
-use Rattle.aplsv_top.proofs.Sound.{IsSound, called_sound, changed_sound, none_fails}
-use Rattle.aplsv_top.proofs.Told.{TellAlike, alike_itself, called_alike, changed_alike, one_read, some_and}
+use Rattle.bundle_devices.proofs.Determined.{IsDetermined}
+use Rattle.bundle_devices.proofs.Sound.{IsSound, called_sound, changed_sound, none_fails}
+use Rattle.bundle_devices.proofs.Told.{TellAlike, alike_itself, called_alike, changed_alike, one_read, some_and}
 
 -- a file's bytes are those of one list of components
 abbrev pub OneList : Type 0

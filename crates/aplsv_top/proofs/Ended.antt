@@ -16,7 +16,7 @@ use Rattle.replay_rules.specs.Turns.{Participant, newcomer}
 use Rattle.aplsv_top.proofs.Heard.{AreHeard, IsHeard}
 use Rattle.aplsv_top.proofs.Level.{AreFitting, FitsAt}
 use Rattle.aplsv_top.proofs.Older.{AreLater, IsLater}
-use Rattle.aplsv_top.proofs.Sessions.{AreLevel, more_calls, same_session}
+use Rattle.bundle_devices.proofs.Sessions.{AreLevel, more_calls, same_session}
 
 -- the answers that refused acts have
 abbrev refusals : List Act → List PlainAnswer

@@ -22,11 +22,11 @@ use Rattle.session_rules.specs.Course.{Course}
 use Rattle.session_rules.specs.Session.{session_of}
 use Rattle.session_rules.specs.Shelf.{Call, Exchange, ShelfReply}
 use Rattle.replay_rules.specs.Turns.{HasReplies, Participant, Replay, AfterTurn, act_made, auxiliary_turn, auxiliary_turns, answer_given, some_user_stays, numbers_of, ordered, party_turn, round, rounds, served, turn, turn_by, turns_where, user_turns}
-use Rattle.aplsv_top.proofs.Determined.{AnswersBehind, IsDetermined, alike_of, begins_of, older_answers}
+use Rattle.bundle_devices.proofs.Determined.{AnswersBehind, IsDetermined, alike_of, begins_of, older_answers}
 use Rattle.aplsv_top.proofs.Heard.{AreHeard, AreUsersApart, all_heard_beside, heard_turns}
 use Rattle.aplsv_top.proofs.Older.{AreLater, IsLater, IsOlder, adds_served, all_later_still, later_turn, later_turns, left_before, none_later, older_by, older_turns, same_numbers, turn_if}
-use Rattle.aplsv_top.proofs.OneReply.{same_served}
-use Rattle.aplsv_top.proofs.Sessions.{AreLevel, more_calls, same_session}
+use Rattle.bundle_devices.proofs.OneReply.{same_served}
+use Rattle.bundle_devices.proofs.Sessions.{AreLevel, more_calls, same_session}
 
 -- ---- two users
 

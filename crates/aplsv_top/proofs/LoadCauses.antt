@@ -71,6 +71,7 @@ module _ (SumsUp : List ℕ → Type 0) where
   load_concluded status.WriteFault sink grown cause writes_well = writes_well (cause.fault refl)
   load_concluded status.TooLong sink grown cause writes_well = cause.only
   load_concluded status.WantOfMemory sink grown cause writes_well = tt
+  load_concluded (status.NotARun found) sink grown cause writes_well = cause.only
 
 -- it ends in no other way
 pub load_ends_so : (ending : Status) → IsLoadEnding ending → ending ≢ status.Done → ending ≢ status.WriteFault → ending ≢ status.WantOfMemory → ⊥
@@ -81,6 +82,7 @@ load_ends_so status.Usage only done fault memory = only
 load_ends_so (status.Malformed offset rule) only done fault memory = only
 load_ends_so status.ReadFault only done fault memory = only
 load_ends_so status.TooLong only done fault memory = only
+load_ends_so (status.NotARun found) only done fault memory = only
 
 -- ---- its run
 

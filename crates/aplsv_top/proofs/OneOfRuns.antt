@@ -20,7 +20,8 @@ use Rattle.session_rules.specs.Behind.{forgets_of, of_each, replies_of}
 use Rattle.session_rules.specs.Run.{Dealings, IsRun, user_numbers}
 use Rattle.sv_journal.specs.Output.{PlainTranscript}
 use Rattle.sv_rules.specs.Entries.{Entries}
-use Rattle.aplsv_top.specs.Headline.{RunBy, ShelvedRun, TwentyRun, clock_of, shelves_of}
+use Rattle.bundle_devices.specs.Devices.{clock_of, shelves_of}
+use Rattle.aplsv_top.specs.Headline.{RunBy, ShelvedRun, TwentyRun}
 use Rattle.aplsv_top.proofs.Over.{answers_of_ten, answers_of_twenty, clock_faults_of, faults_of, ticks_of, told_of}
 
 -- ---- a run with something else behind 10, or behind 20, that gave the same replies

@@ -23,16 +23,17 @@ use Rattle.session_rules.specs.Run.{AreUserParts, Dealings, ServeUsers}
 use Rattle.session_rules.specs.RunLaws.{PartsMakeOneTranscript}
 use Rattle.replay_rules.specs.Turns.{newcomer, numbers_of, ordered, rounds}
 use Rattle.aplsv_replay.specs.Replayed.{IsRunInTurns}
-use Rattle.aplsv_top.specs.OutputLaws.{AllTellThroughout, OutputsAreDetermined, ReplaysAreDetermined}
-use Rattle.aplsv_top.proofs.Clocks.{TickAlike, clocks_are_determined}
-use Rattle.aplsv_top.proofs.Determined.{Answers, AnswersBehind, IsDetermined}
+use Rattle.bundle_devices.specs.Telling.{AllTellThroughout}
+use Rattle.aplsv_top.specs.OutputLaws.{OutputsAreDetermined, ReplaysAreDetermined}
+use Rattle.bundle_devices.proofs.Clocks.{TickAlike, clocks_are_determined}
+use Rattle.bundle_devices.proofs.Determined.{Answers, AnswersBehind, IsDetermined}
 use Rattle.aplsv_top.proofs.Ended.{DealingsFit, fit_at_end, same_dealings, same_parts}
-use Rattle.aplsv_top.proofs.Files.{BeginsWith, KnownReplies, OneText, ServeAlike, files_are_determined, holds_at_start, known_run}
+use Rattle.bundle_devices.proofs.Files.{BeginsWith, KnownReplies, OneText, ServeAlike, files_are_determined, holds_at_start, known_run}
 use Rattle.aplsv_top.proofs.Heard.{AreApartFrom, AreHeard, AreUsersApart, ascending_apart}
 use Rattle.aplsv_top.proofs.Level.{AreTame}
 use Rattle.aplsv_top.proofs.OneRun.{IsRepliedJournal, before_turns, one_journal, tame, users_left}
-use Rattle.aplsv_top.proofs.Shelves.{FitShelf, fit_earlier, fit_one}
-use Rattle.aplsv_top.proofs.Told.{some_and}
+use Rattle.bundle_devices.proofs.Shelves.{FitShelf, fit_earlier, fit_one}
+use Rattle.bundle_devices.proofs.Told.{some_and}
 
 some_of : {X : Type 0} (o : Option X) → IsSome o → (x : X) × (o ≡ Some x)
 some_of None some = absurd cc

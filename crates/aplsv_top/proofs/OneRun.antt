@@ -13,7 +13,7 @@ use Rattle.session_rules.specs.Run.{Dealings}
 use Rattle.session_rules.specs.Shelf.{Call, Exchange, ShelfReply, shelf_replies_in}
 use Rattle.replay_rules.proofs.Rounds.{stays}
 use Rattle.replay_rules.specs.Turns.{IsJournalOfTurns, Participant, Replay, beginning, some_user_stays, newcomer, numbers_of, ordered, rounds}
-use Rattle.aplsv_top.proofs.Determined.{AnswersBehind, IsDetermined}
+use Rattle.bundle_devices.proofs.Determined.{AnswersBehind, IsDetermined}
 use Rattle.aplsv_top.proofs.Level.{AreFitting, AreLevelWith, AreTame, IsLevel, IsRepliedTo, tame_replay}
 use Rattle.aplsv_top.proofs.Older.{same_numbers}
 

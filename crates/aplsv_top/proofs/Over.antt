@@ -27,7 +27,8 @@ use Rattle.sv_journal.specs.Printable.{ArePrintable}
 use Rattle.sv_rules.specs.Entries.{Entries}
 use Rattle.sv_rules.specs.Legal.{IsLegal}
 use Rattle.aplsv_words.specs.Meaning.{Asked}
-use Rattle.aplsv_top.specs.Headline.{IsOutputAs, IsOutputIn, IsOutputOf, NamedRun, OverFiles, RunBy, ShelvedRun, TwentyRun, clock_of, shelves_of, text_store_of}
+use Rattle.bundle_devices.specs.Devices.{clock_of, shelves_of, text_store_of}
+use Rattle.aplsv_top.specs.Headline.{IsOutputAs, IsOutputIn, IsOutputOf, NamedRun, OverFiles, RunBy, ShelvedRun, TwentyRun}
 
 -- what devices in memory tell, and their faults
 abbrev pub ticks_of : Timer → Option Ticks

@@ -18,17 +18,18 @@ use Rattle.sv_journal.specs.Output.{PlainTranscript, output_text}
 use Rattle.sv_rules.specs.Entries.{Entries}
 use Rattle.session_rules.specs.RunLaws.{PartsMakeOneTranscript}
 use Rattle.aplsv_replay.specs.Replayed.{IsRunInTurns}
-use Rattle.aplsv_top.specs.Headline.{NamedRun, OverFiles, clock_of, shelves_of, text_store_of}
+use Rattle.bundle_devices.specs.Devices.{clock_of, empty_shelf, shelves_of, text_store_of}
+use Rattle.aplsv_top.specs.Headline.{NamedRun, OverFiles}
 use Rattle.aplsv_top.specs.OutputLaws.{OwnOutputsAreOne}
-use Rattle.aplsv_top.proofs.Clocks.{TickAlike, clocks_are_determined}
+use Rattle.bundle_devices.proofs.Clocks.{TickAlike, clocks_are_determined}
 use Rattle.aplsv_top.proofs.ComponentAnswers.{FiledAlike, FilesBegin, OneList, components_are_determined}
-use Rattle.aplsv_top.proofs.Determined.{Answers, IsDetermined}
-use Rattle.aplsv_top.proofs.Files.{BeginsWith, KnownReplies, OneText, ServeAlike, files_are_determined, known_run}
-use Rattle.aplsv_top.proofs.OneOutput.{empty_shelf, files_are_sound, files_told, shelf_told}
+use Rattle.bundle_devices.proofs.Determined.{Answers, IsDetermined}
+use Rattle.bundle_devices.proofs.Files.{BeginsWith, KnownReplies, OneText, ServeAlike, files_are_determined, known_run}
+use Rattle.bundle_devices.proofs.OwnDevices.{files_are_sound, files_told, shelf_told}
 use Rattle.aplsv_top.proofs.OneReplay.{one_run}
 use Rattle.aplsv_top.proofs.Over.{clock_faults_of, faults_of, ticks_of, told_of}
 use Rattle.aplsv_top.proofs.RelayAnswers.{RelayAlike, relays_are_determined}
-use Rattle.aplsv_top.proofs.Sound.{files_sound, shelves_sound}
+use Rattle.bundle_devices.proofs.Sound.{files_sound, shelves_sound}
 
 module _ (one_transcript : PartsMakeOneTranscript) (bundle : PlainBundle) (rules : IsBundle bundle)
     {S U : Type 0} (forgets_ten : S → ℕ → S → Type 0) (replies_ten : S → ℕ → PlainArray → PlainArray → S → Type 0) (BeginsTen : S → Type 0) (AlikeTen : S → S → Type 0) (one_ten : IsDetermined forgets_ten replies_ten BeginsTen AlikeTen)

@@ -6,7 +6,7 @@ use Rattle.aux_relay.specs.History.{AreSenders, IsAnswerTo, Reply, parties_answe
 use Rattle.aux_relay.specs.Queues.{AreUntaken, Queues, Relays}
 use Rattle.aux_relay.specs.Request.{Request, other, request_of, send, take_from, waiting}
 use Rattle.sv_offer_laws.proofs.Members.{Contains-behind, Contains-cons_cases, Contains-head}
-use Rattle.aplsv_top.proofs.Determined.{IsDetermined}
+use Rattle.bundle_devices.proofs.Determined.{IsDetermined}
 
 -- ---- ascending numbers are told by which there are
 

@@ -4,11 +4,12 @@ use Rattle.std.specs.Io.KnownBytes.{Appends}
 use Rattle.apl_arrays.specs.Array.{PlainArray}
 use Rattle.apl_io.specs.Clock.{Ticks}
 use Rattle.apl_io.specs.Content.{Told, placed}
-use Rattle.apl_io.specs.Kept.{Keeper, Timer, file_entry, new_keeper}
+use Rattle.apl_io.specs.Kept.{Keeper, Timer}
 use Rattle.apl_io.specs.Whole.{ReadsAll, AppendsPrefix}
 use Rattle.sv_rules.specs.Entries.{Entries}
 use Rattle.sv_journal.specs.Output.{PlainTranscript, output_text}
 use Rattle.sv_journal.specs.Printable.{ArePrintable}
+use Rattle.bundle_devices.specs.Devices.{clock_of, shelves_of, text_store_of}
 use Rattle.bundle_text.specs.Breaks.{Breaks}
 use Rattle.bundle_text.specs.Bundle.{BundleText, IsNoBundle, PlainBundle}
 use Rattle.bundle_text.specs.declared.refused.BundleRule.{BundleRule}
@@ -25,18 +26,6 @@ use Rattle.aux_relay.specs.Queues.{Queues, Relays}
 use Rattle.aplsv_replay.specs.Replayed.{IsDeviceRun, IsRunInTurns}
 use Rattle.aplsv_serve.specs.Runs.{IsSomeRun}
 use Rattle.aplsv_words.specs.Meaning.{Asked}
-
--- the text store of a run: the bundle's files, before the first call, none of which is to fail
-abbrev pub text_store_of : PlainBundle → Keeper (List ℕ)
-text_store_of bundle = new_keeper (map file_entry bundle.files) []
-
--- the clock of a run: the bundle's readings, before the first call, none of which is to fail
-abbrev pub clock_of : PlainBundle → Timer
-clock_of bundle = record { told = record { left = bundle.clock; calls = 0; fails = [] }; faults = 0 }
-
--- the shelves of a run: each without an entry, before the first call, none of which is to fail
-abbrev pub shelves_of : PlainBundle → List (Keeper (ℕ × List ℕ))
-shelves_of bundle = map (λ user. new_keeper [] []) bundle.users
 
 -- the text is the output of a run of this bundle over its files, its readings and empty shelves: its transcripts, and its journal with the oldest entry first, which is the journal of the bundle's replay. They are printable, and no others that are have this output
 pub record IsOutputOf (bundle : PlainBundle) (text : List ℕ) : Type 0 where
@@ -179,9 +168,11 @@ pub record WritesFront (IsRunOf : List ℕ → List ℕ → Type 0) (left rest h
   pub run : IsRunOf bytes text
   pub written : AppendsPrefix held now text
 
--- all bytes were read, to their end, and they are the text of no bundle, since this rule is broken at this offset
-pub record FindsNoBundle (left rest : Option (List ℕ)) (offset : ℕ) (rule : BundleRule) : Type 0 where
+-- all bytes were read, to their end, and the part of them that is to be a bundle is the text of none, since this rule is broken at this offset
+pub record FindsNoBundle (IsPartOf : List ℕ → List ℕ → Type 0) (left rest : Option (List ℕ)) (offset : ℕ) (rule : BundleRule) : Type 0 where
   pub bytes : List ℕ
+  pub part : List ℕ
   pub read : ReadsAll left rest bytes
-  pub refused : Breaks bytes offset rule
-  pub none : IsNoBundle bytes
+  pub of : IsPartOf bytes part
+  pub refused : Breaks part offset rule
+  pub none : IsNoBundle part

@@ -42,6 +42,7 @@ IsLoadEnding status.Usage = ⊥
 IsLoadEnding (status.Malformed offset rule) = ⊥
 IsLoadEnding status.ReadFault = ⊥
 IsLoadEnding status.TooLong = ⊥
+IsLoadEnding (status.NotARun found) = ⊥
 
 -- what stands behind a status of a load: which texts sum up a run of it, and the sink before and after
 pub record HasLoadCause (SumsUp : List ℕ → Type 0) (ending : Status) (sink grown : Device) : Type 0 where

@@ -1,20 +1,15 @@
 -- What holds of outputs.
-use Rattle.std.specs.Prelude.{◌≡◌, ◌≢◌, ℕ, true, false, List, [], ◌∷◌, Option, Some, None, IsSome, IsSomeAnd, map}
-use Rattle.std.specs.declared.cmp.Ordering.{Ordering}
-use Rattle.apl_arrays.specs.Array.{PlainArray}
+use Rattle.std.specs.Prelude.{◌≡◌, ℕ, true, false, List, Option, None, IsSome, map}
 use Rattle.apl_arrays.specs.Name.{name_order}
 use Rattle.apl_io.specs.Clock.{Ticks}
-use Rattle.apl_io.specs.Content.{Told, by_user_and_name, entry_of}
-use Rattle.auxiliaries.specs.Run.{Event, IsReplierRun}
+use Rattle.apl_io.specs.Content.{Told}
 use Rattle.auxiliaries.specs.Served.{Replies, forgotten}
+use Rattle.bundle_devices.specs.Telling.{AllTellThroughout, HoldsThroughout, TellsAll}
 use Rattle.bundle_text.specs.Bundle.{IsBundle, PlainBundle}
-use Rattle.bundle_text.specs.User.{PlainUser}
 use Rattle.sv_journal.specs.Output.{PlainTranscript}
 use Rattle.sv_rules.specs.Entries.{Entries}
 use Rattle.aux_parties.specs.declared.auxiliary.AuxiliaryKind.TheVariants.{TextFiles}
 use Rattle.sv_delivery_laws.specs.DeliveryLaws.{WhatControlGives}
-use Rattle.session_rules.specs.Run.{Dealings, ServeUsers}
-use Rattle.session_rules.specs.Shelf.{Exchange, IsShelfRun}
 use Rattle.aplsv_replay.specs.Replayed.{IsDeviceRun}
 use Rattle.aplsv_words.specs.Meaning.{Asked}
 use Rattle.aplsv_top.specs.Headline.{IsOutputAs, IsOutputFor, IsOutputOver}
@@ -28,29 +23,6 @@ abbrev pub PrintedControlLosesNothing : Type 0
 PrintedControlLosesNothing = (bytes text : List ℕ) → (output : IsOutputFor bytes text) → WhatControlGives output.run.journal
 
 -- ---- replays over devices that tell
-
--- a device tells what it keeps, and the bytes of each entry: none is left untold
-abbrev pub TellsAll : {K : Type 0} → (K → K → Ordering) → Option (Told K) → Type 0
-TellsAll {K = K} order told = IsSomeAnd told (λ now. (key : K) → entry_of order now key ≢ Some None)
-
--- each state that a run of what answers behind an auxiliary leads through is such
-abbrev pub HoldsThroughout : {S : Type 0} (forgets : S → ℕ → S → Type 0) (replies : S → ℕ → PlainArray → PlainArray → S → Type 0) → (S → Type 0) → (start : S) (events : List Event) (end : S) → IsReplierRun forgets replies start events end → Type 0
-HoldsThroughout forgets replies P start [] end run = P end
-HoldsThroughout forgets replies P start (event ∷ earlier) end run = HoldsThroughout forgets replies P start earlier run.0 run.1 × P end
-
-module _ {K : Type 0} (told : K → Option (Told (ℕ × List ℕ))) (faults : K → ℕ) where
-  -- each state that a user's exchanges lead a shelf through tells all
-  abbrev pub TellsThroughout : (user : ℕ) (start : K) (exchanges : List Exchange) (end : K) → IsShelfRun told faults user start exchanges end → Type 0
-  TellsThroughout user start [] end run = TellsAll by_user_and_name (told end)
-  TellsThroughout user start (exchange ∷ earlier) end run = TellsThroughout user start earlier run.0 run.1 × TellsAll by_user_and_name (told end)
-
-  -- and so it is with the shelf of each user
-  abbrev pub AllTellThroughout : (dealings : Dealings) (users : List PlainUser) (shelves shelves_then : List K) → ServeUsers told faults dealings users shelves shelves_then → Type 0
-  AllTellThroughout dealings [] shelves shelves_then served = Unit {0}
-  AllTellThroughout dealings (user ∷ users) [] shelves_then served = ⊥
-  AllTellThroughout dealings (user ∷ users) (shelf ∷ shelves) [] served = ⊥
-  AllTellThroughout dealings (user ∷ users) (shelf ∷ shelves) (shelf_then ∷ shelves_then) served =
-      TellsThroughout user.number shelf (dealings user.number) shelf_then served.0 × AllTellThroughout dealings users shelves shelves_then served.1
 
 -- a replay is asked for, and no word names a device
 pub record ReplaysItsOwn (asked : Asked) : Type 0 where

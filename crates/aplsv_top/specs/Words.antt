@@ -21,6 +21,7 @@ IsConclusion status.Usage = ⊥
 IsConclusion status.ReadFault = ⊥
 IsConclusion status.WriteFault = ⊥
 IsConclusion status.TooLong = ⊥
+IsConclusion (status.NotARun found) = ⊥
 
 -- the exit status of the process, for each way to end
 abbrev pub exit_status : Status → ℕ
@@ -31,3 +32,4 @@ exit_status status.ReadFault = 3
 exit_status status.WriteFault = 4
 exit_status status.TooLong = 5
 exit_status status.WantOfMemory = 6
+exit_status (status.NotARun found) = 7

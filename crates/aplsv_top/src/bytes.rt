@@ -3,11 +3,11 @@ ghost use Rattle.bundle_text.specs.Breaks.{Breaks};
 ghost use Rattle.bundle_text.specs.Refused.{IsRefusal};
 ghost use Rattle.aplsv_top.specs.Headline.{IsOutputOf, IsOutputFor};
 
-use crate::memory::memory_devices;
 use crate::output::output_in;
 use apl_arrays::{Bytes, WantOfMemory};
 use apl_session::FinishedRun;
 use aplsv_replay::replay;
+use bundle_devices::memory_devices;
 use bundle_text::{Bundle, BundleRefused, BundleRule, read};
 use std::alloc::Global;
 

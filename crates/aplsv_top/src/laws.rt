@@ -1,3 +1,5 @@
+ghost use Rattle.std.specs.Prelude.{◌≡◌, ℕ, List};
+ghost use Rattle.aplsv_top.specs.Checks.{IsSplit};
 ghost use Rattle.aplsv_top.specs.OutputLaws.{BundlesHaveOneOutput, OutputsAreDetermined, OwnOutputsAreOne, PrintedControlLosesNothing, ReplaysAreDetermined};
 
 use apl_io::{Clock, Shelf, TextStore};
@@ -54,3 +56,8 @@ pub fn printed_control_loses_nothing()
 {
     delivery_law();
 }
+
+/// An input that is checked is a bundle and a text behind it in one way. The call does nothing.
+pub fn an_input_is_split_in_one_way()
+    ensures { (input bundle text other rest : List ℕ) → IsSplit input bundle text → IsSplit input other rest → (bundle ≡ other) × (text ≡ rest) }
+{}

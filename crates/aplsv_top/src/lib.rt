@@ -2,11 +2,11 @@
 #![tactic(auto)]
 
 mod bytes;
+mod checking;
 mod choices;
 mod in_turns;
 mod laws;
 mod loads;
-mod memory;
 mod on_threads;
 mod output;
 mod printed;
@@ -16,11 +16,13 @@ mod shelf_places;
 mod status;
 mod summaries;
 mod top;
+mod verdicts;
 
 pub use bytes::replay_bytes;
+pub use checking::aplsv_check_words;
 pub use laws::{
-    a_bundle_has_one_output, outputs_are_determined, own_outputs_are_one,
-    printed_control_loses_nothing, replays_are_determined,
+    a_bundle_has_one_output, an_input_is_split_in_one_way, outputs_are_determined,
+    own_outputs_are_one, printed_control_loses_nothing, replays_are_determined,
 };
 pub use printed::{
     outputs_are_printed, own_outputs_are_the_bundles, printed_accesses_follow_the_table,

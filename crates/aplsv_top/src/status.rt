@@ -2,6 +2,7 @@ ghost use Rattle.std.specs.Prelude.{◌≡◌};
 ghost use Rattle.aplsv_top.specs.Words.{exit_status};
 
 use bundle_text::BundleRule;
+use check_rules::Verdict;
 use std::fmt;
 
 /// How the program ended.
@@ -21,6 +22,8 @@ pub enum Status {
     TooLong,
     /// Memory ran out.
     WantOfMemory,
+    /// The text that was checked is not the output of a run of its bundle: what was found of it, which was written.
+    NotARun(Verdict),
 }
 
 impl Status {
@@ -36,6 +39,7 @@ impl Status {
             Status::WriteFault => 4,
             Status::TooLong => 5,
             Status::WantOfMemory => 6,
+            Status::NotARun(_) => 7,
         }
     }
 }
@@ -51,6 +55,7 @@ impl fmt::Display for Status {
             Status::WriteFault => f.write_str("aplsv: write fault"),
             Status::TooLong => f.write_str("aplsv: input too long"),
             Status::WantOfMemory => f.write_str("aplsv: out of memory"),
+            Status::NotARun(_) => f.write_str("aplsv: not a run"),
         }
     }
 }

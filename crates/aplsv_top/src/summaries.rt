@@ -56,8 +56,8 @@ pub(crate) fn summary_in(alloc: Global, n: u32, ended: Ended) -> Result<Bytes, W
     }
 }
 
-// Adds a line of a word and a number.
-fn add_counted(
+/// Adds a line of a word and a number. It takes memory for the line; where that runs out, a part of it may stand there.
+pub(crate) fn add_counted(
     alloc: Global,
     bytes: &mut Vec<u8>,
     word: &str,

@@ -4,7 +4,6 @@ ghost use Rattle.apl_session.specs.Ended.{IfWhole};
 ghost use Rattle.aplsv_words.specs.Meaning.{asked_by};
 ghost use Rattle.aplsv_top.specs.Headline.{ShelvedRun};
 
-use crate::memory::memory_shelves;
 use crate::on_threads::server::Server;
 use crate::shelf_places::place_shelves;
 use apl_arrays::WantOfMemory;
@@ -12,6 +11,7 @@ use apl_io::{Gate, Shelf};
 use apl_session::{Ended, RunOf};
 use aplsv_words::Words;
 use auxiliaries::Replier;
+use bundle_devices::memory_shelves;
 use bundle_text::Bundle;
 use std::alloc::Global;
 use std::sync::Wait;

@@ -1,0 +1,12 @@
+pub mod Begun
+pub mod Differences
+pub mod FollowerSteps
+pub mod Found
+pub mod Newest
+pub mod RunBehind
+pub mod SeatLists
+pub mod TurnsOn
+pub mod UserActs
+pub mod UserSteps
+pub mod Verdicts
+pub mod WhatTheySaw

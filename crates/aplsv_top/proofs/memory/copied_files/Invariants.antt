@@ -1,6 +1,0 @@
-use Rattle.std.proofs.Common.{◌≡◌, map, take}
-use Rattle.apl_arrays.specs.FileList.{plain_file}
-use Rattle.aplsv_top.proofs.memory.copied_files.Given as goal
-
-abbrev pub invariant-loop-file : goal.invariant-loop-file
-invariant-loop-file l = l.list.items ≡ map plain_file (take l.file-index l.files)

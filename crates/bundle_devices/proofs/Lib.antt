@@ -1,0 +1,11 @@
+pub mod Clocks
+pub mod Copies
+pub mod Determined
+pub mod Files
+pub mod OneReply
+pub mod OwnDevices
+pub mod ReplyWork
+pub mod Sessions
+pub mod Shelves
+pub mod Sound
+pub mod Told
