@@ -33,6 +33,17 @@ impl Meeting {
             && self.went_alone.load(Ordering::SeqCst) == 0
     }
 
+    /// How many users have come to their first turns.
+    pub fn came(&self) -> u64 {
+        self.came.load(Ordering::SeqCst)
+    }
+
+    /// Forgets who has come: the gate stands as it was made, for a run that is made once more.
+    pub fn reset(&self) {
+        self.came.store(0, Ordering::SeqCst);
+        self.went_alone.store(0, Ordering::SeqCst);
+    }
+
     // Waits until all have come; whoever looked too often goes on alone.
     fn wait(&self) {
         for _look in 0..MOST_LOOKS {

@@ -15,6 +15,8 @@ mod over;
 mod prefixes;
 mod rows;
 mod run;
+mod scant;
+mod scarce;
 mod threads;
 mod trials;
 
@@ -27,6 +29,7 @@ use folders::each_bundle;
 use over::Over;
 use prefixes::each_prefix;
 use rows::run_rows;
+use scarce::scarce;
 use std::process::ExitCode;
 use std::sync::Wait;
 use std::thread::Threads;
@@ -52,11 +55,13 @@ fn all_stored<R: Threads + Wait + Sync>(rt: &HostRuntime, threads: &R) -> Result
     let one_journal = |alloc, fields: &[&str]| one_journal(rt, threads, alloc, fields);
     let meetings = |alloc, fields: &[&str]| meetings(rt, threads, alloc, fields);
     let last_lines = |alloc, fields: &[&str]| last_lines(rt, threads, alloc, fields);
+    let scarce = |alloc, fields: &[&str]| scarce(threads, alloc, fields);
     let mut tally = run_rows(rt, "devices.txt", 2, faulty)?;
     tally.add(run_table(rt, "handed.txt", &Over)?);
     tally.add(run_rows(rt, "threads.txt", 2, one_journal)?);
     tally.add(run_rows(rt, "meetings.txt", 3, meetings)?);
-    tally.add(run_rows(rt, "last_lines.txt", 3, last_lines)?);
+    tally.add(run_rows(rt, "last_lines.txt", 4, last_lines)?);
+    tally.add(run_rows(rt, "scarce.txt", 5, scarce)?);
     Ok(tally)
 }
 

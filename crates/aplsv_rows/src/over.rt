@@ -97,8 +97,8 @@ fn run_next(
     }
 }
 
-// A source that gives what a text with escapes says.
-fn source_of(alloc: Global, text: &str) -> Result<MemorySource> {
+/// A source that gives what a text with escapes says.
+pub fn source_of(alloc: Global, text: &str) -> Result<MemorySource> {
     let bytes = Bytes::from(bytes_of(alloc, text)?);
     Ok(MemorySource::new(bytes, SOUND.piece, CallNumbers::new(alloc)))
 }

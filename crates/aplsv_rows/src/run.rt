@@ -146,7 +146,7 @@ pub fn run<R: Threads + Wait + Sync>(
     run_past(threads, alloc, case, &Meeting::of(0))
 }
 
-/// Runs a case past a gate, once more where memory was refused.
+/// Runs a case past a gate, once more where memory was refused; then the gate has forgotten who came to it before.
 pub fn run_past<R: Threads + Wait + Sync>(
     threads: &R,
     alloc: Global,
@@ -154,7 +154,10 @@ pub fn run_past<R: Threads + Wait + Sync>(
     gate: &Meeting,
 ) -> Result<ProgramEnd> {
     match run_once(threads, alloc, case, gate) {
-        Err(WantOfMemory) => Ok(run_once(threads, alloc, case, gate)?),
+        Err(WantOfMemory) => {
+            gate.reset();
+            Ok(run_once(threads, alloc, case, gate)?)
+        }
         Ok(ended) => Ok(ended),
     }
 }

@@ -76,24 +76,24 @@ fn ends_with(output: &str, lines: &str) -> bool {
     }
 }
 
-/// Bundles of stored cases on threads of which the last transcript ends with the same lines in each run without an access that
-/// was abandoned: the case, the words, and these lines.
+/// Bundles of stored cases on threads of which the last transcript ends with the same lines in each run: the case, the words, the
+/// lines where no access was abandoned, and those where one was.
 pub fn last_lines<R: Threads + Wait + Sync>(
     rt: &HostRuntime,
     threads: &R,
     alloc: Global,
     fields: &[&str],
 ) -> Result<String> {
-    let [name, words, lines, ..] = fields else {
-        bail!("a case, words and lines are wanted");
+    let [name, words, lines, abandoned, ..] = fields else {
+        bail!("a case, words, lines and other lines are wanted");
     };
     let stored = StoredCase::read(rt, *name)?;
     let ended = threaded(threads, alloc, &stored, *words, &Meeting::of(0))?;
-    let lines = bytes_of(alloc, *lines)?;
     let output = str::from_utf8(&ended.written)?;
     let was_abandoned = output.split_once(" : abandoned ").is_some();
+    let lines = bytes_of(alloc, if was_abandoned { *abandoned } else { *lines })?;
     let code = ended.code;
-    let ends_so = was_abandoned || ends_with(output, str::from_utf8(&lines)?);
+    let ends_so = ends_with(output, str::from_utf8(&lines)?);
     let ending = if ends_so { "as wanted" } else { "other lines" };
     Ok(format!(in alloc; "{ending}, status {code}")?)
 }

@@ -1,3 +1,4 @@
+use crate::counts::Counts;
 use crate::dawdling::Dawdling;
 use crate::drawing::{BEHIND, drawn_users};
 use crate::lots::Lots;
@@ -7,23 +8,46 @@ use printed_text::{PrintedRefused, read};
 use std::alloc::Global;
 use std::sync::Wait;
 use std::thread::Threads;
+use sv_events::Entry;
 
-/// What came of a bundle on threads: whether its output is that of no run, and whether it is another one than that of its replay.
+/// What came of a bundle on threads: whether its output is that of no run, whether it is another one than that of its replay, and
+/// what its entries came to.
 #[derive(Clone, Copy, Debug)]
 pub struct Judged {
     pub differs: bool,
     pub is_other: bool,
+    pub counts: Counts,
+}
+
+/// A bundle in the order of the turns of an output, and what the entries of the output came to.
+#[derive(Debug, Drop)]
+struct Ordered {
+    bundle: String,
+    counts: Counts,
 }
 
 // The bundle of some users, with an order of turns: the parties of the entries of an output.
-fn in_order(alloc: Global, users: &str, output: &[u8]) -> Result<String> {
+fn in_order(alloc: Global, users: &str, output: &[u8]) -> Result<Ordered> {
     let printed = match read(alloc, None, output) {
         Ok(printed) => printed,
         Err(PrintedRefused::Departs(offset)) => bail!("no output from byte {offset} on"),
         Err(PrintedRefused::WantOfMemory) => bail!("out of memory"),
     };
+    let bundle = with_order(alloc, users, printed.journal());
+    let mut counts = Counts::new();
+    for entry in printed.journal() {
+        counts.count(entry);
+    }
+    drop(printed);
+    Ok(Ordered {
+        bundle: bundle?,
+        counts,
+    })
+}
+
+// The bundle of some users, with the parties of these entries as its order.
+fn with_order(alloc: Global, users: &str, entries: &[Entry]) -> Result<String> {
     let mut text = String::from_str(alloc, users)?;
-    let entries = printed.journal();
     if !entries.is_empty() {
         text.push_str("order")?;
         for entry in entries {
@@ -33,7 +57,6 @@ fn in_order(alloc: Global, users: &str, output: &[u8]) -> Result<String> {
         text.push('\n')?;
     }
     text.push_str(BEHIND)?;
-    drop(printed);
     Ok(text)
 }
 
@@ -62,11 +85,15 @@ pub fn judge<R: Threads + Wait + Sync>(
         workers,
         &Dawdling::of(seed),
     )?;
-    let ordered = in_order(alloc, users.as_str(), &output)?;
+    let Ordered {
+        bundle: ordered,
+        counts,
+    } = in_order(alloc, users.as_str(), &output)?;
     let judged = replayed(alloc, ordered.as_str())?;
     let alone = replayed(alloc, bundle.as_str())?;
     Ok(Judged {
         differs: judged.as_slice() != output.as_slice(),
         is_other: alone.as_slice() != output.as_slice(),
+        counts,
     })
 }
