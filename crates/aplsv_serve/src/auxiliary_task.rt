@@ -61,12 +61,12 @@ impl<X: Replier> AuxiliaryTask<X> {
         }
         if self.seat.reserve().is_err() {
             self.auxiliary.give_up();
-            return self.come_of(rt, bell, Service::Rested);
+            return self.come_of(bell, Service::Rested);
         }
         self.turns = self.turns.saturating_add(1);
         hall.gate.pass(rt, self.seat.party(), self.turns);
         let service = self.enter(rt, hall);
-        self.come_of(rt, bell, service)
+        self.come_of(bell, service)
     }
 
     // The auxiliary's work in its turn.
@@ -91,16 +91,16 @@ impl<X: Replier> AuxiliaryTask<X> {
     }
 
     // What comes of a turn: the bell is rung where an entry was made, and marked where memory ran out.
-    fn come_of<R: Wait>(&mut self, rt: &R, bell: &Bell, service: Service) -> Progress
+    fn come_of(&mut self, bell: &Bell, service: Service) -> Progress
         ensures same { (self.new.auxiliary ≡ self.old.auxiliary) × (self.new.seat ≡ self.old.seat) × (self.new.began ≡ self.old.began) }
         ensures done { self.old.auxiliary.is_lost ≡ true → self.new.is_done ≡ true }
     {
         let is_lost = self.auxiliary.is_lost();
         if is_lost {
-            bell.mark(rt);
+            bell.mark();
         }
         if service == Service::Made {
-            bell.ring(rt);
+            bell.ring();
         }
         self.is_done = is_lost || service == Service::Over;
         match service {

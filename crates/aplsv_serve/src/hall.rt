@@ -1,10 +1,10 @@
-use sv_core::Core;
+use crate::boxed_core::BoxedCore;
 use sv_turn::Turnstile;
 
 /// What the parties of a run share: the processor behind its turnstile, the users' numbers, and the gate.
 #[derive(Drop)]
 pub struct Hall<'a, G> {
-    pub stile: Turnstile<Core>,
+    pub stile: Turnstile<BoxedCore>,
     pub users: Vec<u32>,
     pub gate: &'a G,
 }

@@ -2,6 +2,7 @@
 #![tactic(auto)]
 
 mod auxiliary_task;
+mod boxed_core;
 mod ending;
 mod hall;
 mod part;

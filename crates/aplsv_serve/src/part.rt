@@ -11,6 +11,7 @@ ghost use Rattle.apl_session.specs.declared.session.SessionStage.TheVariants as 
 ghost use Rattle.party_turns.specs.Entering.{Brings, IsOneIf, IsReady};
 ghost use Rattle.party_turns.specs.SoFar.{HasAnswered};
 
+use crate::boxed_core::BoxedCore;
 use apl_io::Shelf;
 use auxiliaries::Replier;
 use party_turns::{Auxiliary, Intent, TurnResult, UserSeat};
@@ -36,7 +37,7 @@ fn give_up<K: Shelf>(user: &mut UserSeat<K>, core: &mut Core) -> TurnResult
 /// entry, and none for a leave.
 pub fn take_part<K: Shelf>(
     user: &mut UserSeat<K>,
-    core: &mut Core,
+    core: &mut BoxedCore,
     about: Option<Intent>,
 ) -> TurnResult
     requires user { IsTrue (is_user core.old.users user.old.session.user) }
@@ -51,8 +52,8 @@ pub fn take_part<K: Shelf>(
     ensures waiting { OnSome result.answer (user.old.session.stage ≡ stage.Waiting) }
 {
     match about {
-        None => give_up(user, core),
-        Some(intent) => enter(user, core, intent),
+        None => give_up(user, &mut core.core),
+        Some(intent) => enter(user, &mut core.core, intent),
     }
 }
 
@@ -95,7 +96,7 @@ fn some_user_stays(core: &Core, users: &[u32]) -> bool
 /// An auxiliary's work, as long as some of these users has not left. It takes memory as the auxiliary's turn does.
 pub fn give_service<X: Replier>(
     auxiliary: &mut Auxiliary<X>,
-    core: &mut Core,
+    core: &mut BoxedCore,
     users: &[u32],
 ) -> Service
     requires { IsTrue (is_auxiliary auxiliary.old.party) }
@@ -105,10 +106,10 @@ pub fn give_service<X: Replier>(
     ensures answered { auxiliary.new.is_lost ≡ false → (start : X) → HasAnswered X.forgets X.replies start core.old.journal auxiliary.old → HasAnswered X.forgets X.replies start core.new.journal auxiliary.new }
     ensures lost { auxiliary.old.is_lost ≡ true → auxiliary.new.is_lost ≡ true }
 {
-    if !some_user_stays(core, users) {
+    if !some_user_stays(&core.core, users) {
         return Service::Over;
     }
-    if auxiliary.take_turn(core) {
+    if auxiliary.take_turn(&mut core.core) {
         Service::Made
     } else {
         Service::Rested

@@ -11,6 +11,7 @@ ghost use Rattle.aplsv_serve.specs.Halls.{users_of_stile};
 ghost use Rattle.aplsv_serve.specs.Runs.{IsRunOverDevices, IsSomeRun};
 ghost use Rattle.aplsv_serve.specs.Tasks.{PartyStands, party_name};
 
+use crate::boxed_core::BoxedCore;
 use crate::ending::{Apart, take_all_apart};
 use crate::hall::Hall;
 use crate::party_task::PartyTask;
@@ -29,10 +30,11 @@ use task_workers::{Bell, work_all};
 
 /// Runs a bundle on threads over a text store, a clock, and a shelf for each user. The parties are tasks: the clock, the text
 /// files and the users, ascending; task k, counted from 0, stands with worker k modulo their number, and a worker gives each of
-/// its tasks in turn one act. A party passes the gate each time before it takes its turn. The k-th user takes the k-th shelf,
-/// and all come back in their order. No thread is started that would have no task, and one that can't be started leaves its
-/// tasks to the caller's. It takes the memory of the run; where that runs out for a party, the run ends as `WantOfMemory` when all
-/// users have left. It may wait for ever.
+/// its tasks in turn one act. A party passes the gate each time before it takes its turn. The k-th user takes the k-th shelf.
+/// No thread is started that would have no task, and one that can't be started leaves its tasks to the caller's. It takes the
+/// memory of the run. Where the run is whole it is a run over these devices, which come back as it left them, the shelves in
+/// their order. Of a run that ends as `WantOfMemory` no clause says more; it is tried that there all users leave, and that the
+/// shelves come back in their order too. It may wait for ever.
 pub fn serve<
     R: Threads + Wait + Sync,
     T: TextStore + Send + Drop,
@@ -196,7 +198,7 @@ fn is_over<X: Replier, Y: Replier, K: Shelf>(
 // left.
 fn close<X: Replier, Y: Replier, K: Shelf>(
     alloc: Global,
-    stile: Turnstile<Core>,
+    stile: Turnstile<BoxedCore>,
     apart: Apart<X, Y, K>,
     shelves: Vec<K>,
 ) -> RunOf<X, Y, K>
@@ -216,6 +218,7 @@ fn close<X: Replier, Y: Replier, K: Shelf>(
         seats,
     } = apart;
     let (core, _seats) = stile.close(Seats::of_vec(seats));
+    let core = core.into_core();
     let is_whole = is_over(&ten, &twenty, &users, &core);
     let mut shelves = shelves;
     let transcripts = take_apart(alloc, users, &mut shelves);

@@ -9,6 +9,7 @@ ghost use Rattle.aplsv_serve.specs.Halls.{IsFreshSeat, Stile};
 ghost use Rattle.aplsv_serve.specs.Starts.{AreNewTasks, AreSeatedBehind};
 
 use crate::auxiliary_task::AuxiliaryTask;
+use crate::boxed_core::BoxedCore;
 use crate::party_task::PartyTask;
 use crate::user_task::UserTask;
 use apl_arrays::WantOfMemory;
@@ -25,7 +26,7 @@ use sv_turn::{Seat, Turnstile};
 /// and for the tasks, before the run and behind it.
 #[derive(Drop)]
 pub struct Start<X, Y, K> {
-    pub stile: Turnstile<Core>,
+    pub stile: Turnstile<BoxedCore>,
     pub seats: Vec<Seat<EntrySeen>>,
     pub numbers: Vec<u32>,
     pub users: Vec<UserSeat<K>>,
@@ -52,7 +53,7 @@ fn open(
     alloc: Global,
     core: Core,
     parties: &[u32],
-) -> Result<(Turnstile<Core>, Vec<Seat<EntrySeen>>), WantOfMemory>
+) -> Result<(Turnstile<BoxedCore>, Vec<Seat<EntrySeen>>), WantOfMemory>
     requires parties { (0 < length parties.now) × All (λ party. 0 < party) parties.now × AllPairs (λ party next. party < next) parties.now }
     requires empty { core.journal ≡ [] }
     ensures parties { IfOk result (λ made. map (λ seat. seat.party) made.1.items ≡ parties.now) }
@@ -62,6 +63,7 @@ fn open(
     ensures given { IfOk result (λ made. seats_given made.0 ≡ length parties.now) }
     ensures members { IfOk result (λ made. start_members members_of made.0 ≡ core.users) }
 {
+    let core = BoxedCore::new(alloc, core)?;
     match Turnstile::new(alloc, core, parties) {
         Ok((stile, seats)) => Ok((stile, seats.into_vec())),
         Err(_) => Err(WantOfMemory),

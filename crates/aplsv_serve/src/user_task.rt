@@ -75,14 +75,14 @@ impl<K: Shelf> UserTask<K> {
         if self.is_done {
             return Progress::Done;
         }
-        let about = self.prepare(bell.is_marked(rt));
+        let about = self.prepare(bell.is_marked());
         let is_going = goes_on(&about);
         self.turns = self.turns.saturating_add(1);
         hall.gate.pass(rt, self.user.user(), self.turns);
         let came = self.enter(rt, hall, about);
         self.is_done = !is_going || self.user.is_lost;
         if came.is_entered {
-            bell.ring(rt);
+            bell.ring();
         }
         self.hear(came)
     }

@@ -8,13 +8,21 @@ ghost use Rattle.sv_turn.specs.Seating.{BelongsTo, IsSeatAt, start_members, know
 ghost use Rattle.sv_turn.specs.Turning.{journal_in, members_in, table_in, IsGiven, LendsState};
 
 use crate::sitting::{rise, settle};
-use crate::steps::{draw, look, put, release, take};
+use crate::steps::{draw, look, put, release, serving, take};
 use crate::turn::Turn;
 use crate::view::View;
 use crate::{History, Seat, Turnstile};
-use crossbeam_utils::Backoff;
 use crossbeam_utils::sync::EventCount;
 use std::sync::Wait;
+use std::thread;
+
+// How often a thread looks for its turn before it sleeps.
+const LOOKS: u32 = 16;
+
+// How often it does where so few turns come before its own.
+const LOOKS_NEAR: u32 = 64;
+
+const NEAR: u64 = 3;
 
 impl<S: History> Turnstile<S> {
     // The bell of a ticket: its place in the row.
@@ -22,30 +30,35 @@ impl<S: History> Turnstile<S> {
         &self.bells[(ticket % self.bells.len() as u64) as usize]
     }
 
-    // One look, and a pause where the turn hasn't come. A thread that paused often enough sleeps until the bell of its ticket rings.
-    fn try_turn<R: Wait>(
-        &self,
-        rt: &R,
-        place: &mut atomic_table::Seat<Option<S>, View<S::Entry>>,
-        ticket: u64,
-        backoff: &Backoff,
-    ) -> bool
-        requires table { place.old.table_id ≡ self.now.table.shared.table_id }
-        requires waits { (number : ℕ) × (place.old.me.0.stage ≡ Waits number) × (ticket ≡ number % 2 ^ 64) }
-        ensures table { place.new.table_id ≡ place.old.table_id }
-        ensures here { result ≡ true → IsHere S.entries S.members_of S.party_of place.old.me place.new.me }
-        ensures waits { result ≡ false → place.new.me ≡ place.old.me }
-    {
-        if !backoff.is_completed() {
-            backoff.snooze();
-            return look(&self.table.shared, place, ticket);
-        }
+    // How many turns come before that of a ticket.
+    fn turns_before(&self, ticket: u64) -> u64 {
+        ticket.wrapping_sub(serving(&self.table.shared))
+    }
+
+    // Sleeps until the bell of a ticket rings, unless its turn has come. No ring is missed: a thread says that it waits before it
+    // looks, and who gives a turn on does so before it rings.
+    fn sleep<R: Wait>(&self, rt: &R, ticket: u64) {
         let key = self.bell(ticket).prepare_wait();
-        if look(&self.table.shared, place, ticket) {
-            return true;
+        if self.turns_before(ticket) != 0 {
+            key.wait(rt);
         }
-        key.wait(rt);
-        false
+    }
+
+    // Whether a thread that looked so often is to look once more before it sleeps.
+    fn looks_again(&self, ticket: u64, looks: u32) -> bool {
+        looks < LOOKS || (looks < LOOKS_NEAR && self.turns_before(ticket) <= NEAR)
+    }
+
+    // What a thread does between two looks: it lets others run, or it sleeps where it looked too often. How often it looked since
+    // it slept.
+    fn pause<R: Wait>(&self, rt: &R, ticket: u64, looks: u32) -> u32 {
+        if self.looks_again(ticket, looks) {
+            thread::yield_now();
+            looks.saturating_add(1)
+        } else {
+            self.sleep(rt, ticket);
+            0
+        }
     }
 
     // Waits until the turn of a ticket comes.
@@ -60,14 +73,12 @@ impl<S: History> Turnstile<S> {
         ensures table { place.new.table_id ≡ place.old.table_id }
         ensures here { IsHere S.entries S.members_of S.party_of place.old.me place.new.me }
     {
-        if look(&self.table.shared, place, ticket) {
-            return;
-        }
-        let backoff = Backoff::new();
+        let mut looks = 0;
         for _ in rt.forever() {
-            if self.try_turn(rt, place, ticket, &backoff) {
+            if look(&self.table.shared, place, ticket) {
                 return;
             }
+            looks = self.pause(rt, ticket, looks);
         }
         unreachable!()
     }

@@ -94,6 +94,13 @@ pub fn look<S: History>(
     shared.load::<Look>(place, SERVING) == ticket
 }
 
+/// The ticket whose turn it is: a look that tells nothing.
+pub fn serving<S: History>(shared: &Shared<Option<S>, View<S::Entry>, Start<S>, Order>) -> u64
+    requires { shared.now.table_id.words ≡ 4 }
+{
+    shared.peek(SERVING)
+}
+
 /// Takes the state out of the slot.
 pub fn take<S: History>(
     shared: &Shared<Option<S>, View<S::Entry>, Start<S>, Order>,

@@ -1,60 +1,59 @@
-use std::sync::{Condvar, Mutex, Wait};
-
-// How often a bell was rung, and whether its mark is set.
-#[derive(Drop)]
-struct Rings {
-    count: u64,
-    is_marked: bool,
-}
+use crossbeam_utils::CachePadded;
+use crossbeam_utils::sync::EventCount;
+use std::sync::Wait;
+use std::sync::atomic::{AtomicBool, AtomicU64, Ordering};
 
 /// A bell that wakes the workers which wait, and a mark beside it that is set for good.
 #[derive(Drop)]
 pub struct Bell {
-    rings: Mutex<Rings>,
-    rung: Condvar,
+    // How often it was rung. Each entry writes it, so it stands in a line of the cache of its own.
+    rings: CachePadded<AtomicU64>,
+    is_marked: AtomicBool,
+    rung: EventCount,
 }
 
 impl Bell {
     /// A bell that nobody rang. It takes no memory.
     pub fn new() -> Bell {
         Bell {
-            rings: Mutex::new(Rings {
-                count: 0,
-                is_marked: false,
-            }),
-            rung: Condvar::new(),
+            rings: CachePadded::new(AtomicU64::new(0)),
+            is_marked: AtomicBool::new(false),
+            rung: EventCount::new(),
         }
     }
 
     /// Rings the bell.
-    pub fn ring<R: Wait>(&self, rt: &R) {
-        let mut rings = self.rings.lock(rt);
-        rings.count = rings.count.wrapping_add(1);
+    pub fn ring(&self) {
+        self.rings.fetch_add(1, Ordering::SeqCst);
         self.rung.notify_all();
     }
 
     /// Sets the mark, and rings the bell.
-    pub fn mark<R: Wait>(&self, rt: &R) {
-        let mut rings = self.rings.lock(rt);
-        rings.is_marked = true;
-        rings.count = rings.count.wrapping_add(1);
-        self.rung.notify_all();
+    pub fn mark(&self) {
+        self.is_marked.store(true, Ordering::SeqCst);
+        self.ring();
     }
 
     /// Whether the mark is set.
-    pub fn is_marked<R: Wait>(&self, rt: &R) -> bool {
-        self.rings.lock(rt).is_marked
+    pub fn is_marked(&self) -> bool {
+        self.is_marked.load(Ordering::SeqCst)
     }
 
     // How often it was rung: a worker looks before it gives its tasks their turns.
-    pub(crate) fn count<R: Wait>(&self, rt: &R) -> u64 {
-        self.rings.lock(rt).count
+    pub(crate) fn count(&self) -> u64 {
+        self.rings.load(Ordering::SeqCst)
     }
 
-    // Waits until it was rung since then.
+    // Waits until it was rung since then. No ring is missed: a worker says that it waits before it looks at the count, and who
+    // rings counts before it looks whether somebody waits, so one of the two sees the other.
     pub(crate) fn wait_past<R: Wait>(&self, rt: &R, seen: u64) {
-        let _rings = self
-            .rung
-            .wait_while(rt, self.rings.lock(rt), |rings| rings.count == seen);
+        for _ in rt.forever() {
+            let key = self.rung.prepare_wait();
+            if self.count() != seen {
+                return;
+            }
+            key.wait(rt);
+        }
+        unreachable!()
     }
 }

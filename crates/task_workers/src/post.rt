@@ -4,10 +4,15 @@ ghost use Rattle.task_workers.specs.Posts.{CameBack, IsPostIn, KeepsTasks, names
 
 use crate::rounds::{take_round, work};
 use crate::{Bell, Progress, Task};
+use std::collections::LinkedList;
 use std::snapshot::Snapshot;
 use std::sync::Wait;
 use std::sync::atomic::{AtomicU64, Ordering};
 use std::thread::{Promise, PromisedHandle, Scope, Threads};
+
+/// Stands where the number of the worker that was turned back is to stand, as long as none was: the caller's own worker has it,
+/// which is never started.
+pub const NOBODY: u64 = 0;
 
 /// The promise of a worker: the tasks that it was given come back.
 #[derive(Drop)]
@@ -28,18 +33,6 @@ pub enum Post<H, T: Task<H>> {
 }
 
 impl<H, T: Task<H>> Post<H, T> {
-    /// A turn for each task that is here.
-    pub fn take_round<R: Wait>(&mut self, rt: &R, hall: &H, bell: &Bell) -> Progress
-        requires { IsPostIn T.stands hall.now self.old }
-        ensures post { IsPostIn T.stands hall.now self.new }
-        ensures names { names_at T.name self.new ≡ names_at T.name self.old }
-    {
-        match self {
-            Post::Here(load) => take_round(rt, hall, bell, load),
-            Post::Away(_) => Progress::Done,
-        }
-    }
-
     /// The tasks of a post in this hall, once they are back. It may wait for ever.
     pub fn come_back<R: Threads>(self, rt: &R, hall: &H) -> Vec<T>
         requires { IsPostIn T.stands hall.now self }
@@ -49,6 +42,22 @@ impl<H, T: Task<H>> Post<H, T> {
         match self {
             Post::Here(load) => load,
             Post::Away(handle) => handle.join(rt),
+        }
+    }
+}
+
+// A post is a task: its turn is one for each task that is here.
+impl<H, T: Task<H>> Task<H> for Post<H, T> {
+    type Name = LinkedList<T::Name>;
+
+    ghost name = { names_at T.name };
+
+    ghost stands = { IsPostIn T.stands };
+
+    fn take_turn<R: Wait>(&mut self, rt: &R, hall: &H, bell: &Bell) -> Progress {
+        match self {
+            Post::Here(load) => take_round(rt, hall, bell, load),
+            Post::Away(_) => Progress::Done,
         }
     }
 }

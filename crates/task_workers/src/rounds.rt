@@ -29,7 +29,7 @@ pub fn work<R: Wait, H, T: Task<H>>(rt: &R, hall: &H, bell: &Bell, tasks: &mut [
     ensures names { map T.name tasks.new ≡ map T.name tasks.old }
 {
     for _ in rt.forever() {
-        let seen = bell.count(rt);
+        let seen = bell.count();
         match take_round(rt, hall, bell, tasks) {
             Progress::Went => {}
             Progress::Waits => bell.wait_past(rt, seen),

@@ -4,8 +4,9 @@ ghost use Rattle.task_workers.specs.Dealing.{HasRoom, dealt, lists_of};
 ghost use Rattle.task_workers.specs.Posts.{IsPostIn, names_at};
 
 use crate::dealing::{deal, empty_lists, gather};
-use crate::post::{Post, start};
-use crate::{Bell, Progress, Task};
+use crate::post::{NOBODY, Post, start};
+use crate::rounds::work;
+use crate::{Bell, Task};
 use std::alloc::{AllocError, Global};
 use std::sync::Wait;
 use std::sync::atomic::AtomicU64;
@@ -79,41 +80,6 @@ fn post_all<'s, E, R: Threads + Wait + Sync, H: Sync, T: Task<H> + Send + Drop +
     posts
 }
 
-// A turn for each task that is at one of these posts.
-fn take_round_here<R: Wait, H, T: Task<H>>(
-    rt: &R,
-    hall: &H,
-    bell: &Bell,
-    posts: &mut [Post<H, T>],
-) -> Progress
-    requires { All (IsPostIn T.stands hall.now) posts.old }
-    ensures posts { All (IsPostIn T.stands hall.now) posts.new }
-    ensures names { map (names_at T.name) posts.new ≡ map (names_at T.name) posts.old }
-{
-    let mut went = Progress::Done;
-    for index in 0..posts.len() {
-        went = went.beside(posts[index].take_round(rt, hall, bell));
-    }
-    went
-}
-
-// The work of the caller's own worker: rounds until all tasks at these posts are done. It may wait for ever.
-fn work_here<R: Wait, H, T: Task<H>>(rt: &R, hall: &H, bell: &Bell, posts: &mut [Post<H, T>])
-    requires { All (IsPostIn T.stands hall.now) posts.old }
-    ensures posts { All (IsPostIn T.stands hall.now) posts.new }
-    ensures names { map (names_at T.name) posts.new ≡ map (names_at T.name) posts.old }
-{
-    for _ in rt.forever() {
-        let seen = bell.count(rt);
-        match take_round_here(rt, hall, bell, posts) {
-            Progress::Went => {}
-            Progress::Waits => bell.wait_past(rt, seen),
-            Progress::Done => return,
-        }
-    }
-    unreachable!()
-}
-
 // The tasks of all posts, once they are back, in a list that has room for them.
 fn return_all<R: Threads, H, T: Task<H> + Drop>(
     rt: &R,
@@ -155,7 +121,7 @@ fn work_within<'s, E, R: Threads + Wait + Sync, H: Sync, T: Task<H> + Send + Dro
         return Err(loads);
     };
     let mut posts = post_all(rt, scope, hall, bell, turned_back, loads, posts);
-    work_here(rt, hall, bell, &mut posts);
+    work(rt, hall, bell, &mut posts);
     Ok(return_all(rt, hall, posts, returned))
 }
 
@@ -174,7 +140,7 @@ fn work_together<R: Threads + Wait + Sync, H: Sync, T: Task<H> + Send + Drop>(
     ensures names { IfOk result (λ back. map (λ load. map T.name load.items) back.items ≡ map (λ load. map T.name load.items) loads.items) }
     ensures err { IfErr result (λ back. back ≡ loads) }
 {
-    let turned_back = AtomicU64::new(0);
+    let turned_back = AtomicU64::new(NOBODY);
     let turned_back = &turned_back;
     thread::scope(
         thread::scope_env(),
