@@ -4,11 +4,12 @@ use crate::drawing::{BEHIND, drawn_users};
 use crate::lots::Lots;
 use crate::runs::{replayed, threaded};
 use anyhow::{Result, bail};
-use printed_text::{PrintedRefused, read};
+use aplsv_check::{Verdict, check};
+use bundle_text::{Bundle, BundleRefused};
+use printed_text::PrintedRefused;
 use std::alloc::Global;
 use std::sync::Wait;
 use std::thread::Threads;
-use sv_events::Entry;
 
 /// What came of a bundle on threads: whether its output is that of no run, whether it is another one than that of its replay, and
 /// what its entries came to.
@@ -19,45 +20,36 @@ pub struct Judged {
     pub counts: Counts,
 }
 
-/// A bundle in the order of the turns of an output, and what the entries of the output came to.
-#[derive(Debug, Drop)]
-struct Ordered {
-    bundle: String,
-    counts: Counts,
-}
-
-// The bundle of some users, with an order of turns: the parties of the entries of an output.
-fn in_order(alloc: Global, users: &str, output: &[u8]) -> Result<Ordered> {
-    let printed = match read(alloc, None, output) {
+// What the entries of an output came to.
+fn counts_of(alloc: Global, output: &[u8]) -> Result<Counts> {
+    let printed = match printed_text::read(alloc, None, output) {
         Ok(printed) => printed,
         Err(PrintedRefused::Departs(offset)) => bail!("no output from byte {offset} on"),
         Err(PrintedRefused::WantOfMemory) => bail!("out of memory"),
     };
-    let bundle = with_order(alloc, users, printed.journal());
     let mut counts = Counts::new();
     for entry in printed.journal() {
         counts.count(entry);
     }
     drop(printed);
-    Ok(Ordered {
-        bundle: bundle?,
-        counts,
-    })
+    Ok(counts)
 }
 
-// The bundle of some users, with the parties of these entries as its order.
-fn with_order(alloc: Global, users: &str, entries: &[Entry]) -> Result<String> {
-    let mut text = String::from_str(alloc, users)?;
-    if !entries.is_empty() {
-        text.push_str("order")?;
-        for entry in entries {
-            let party = entry.party;
-            write!(text, " {party}")?;
-        }
-        text.push('\n')?;
+// The bundle of a text.
+fn bundle_of(alloc: Global, text: &str) -> Result<Bundle> {
+    match bundle_text::read(alloc, text.as_bytes()) {
+        Ok(bundle) => Ok(bundle),
+        Err(BundleRefused::Malformed { offset, .. }) => bail!("no bundle from byte {offset} on"),
+        Err(BundleRefused::WantOfMemory) => bail!("out of memory"),
     }
-    text.push_str(BEHIND)?;
-    Ok(text)
+}
+
+// Whether an output is that of some run of the bundle of a text, over its own files and readings and empty shelves.
+fn is_sound(alloc: Global, text: &str, output: &[u8]) -> Result<bool> {
+    let bundle = bundle_of(alloc, text)?;
+    let verdict = check(alloc, &bundle, output);
+    drop(bundle);
+    Ok(verdict? == Verdict::Yes)
 }
 
 // The bundle of some users.
@@ -65,9 +57,8 @@ fn whole(alloc: Global, users: &str) -> Result<String> {
     Ok(format!(in alloc; "{users}{BEHIND}")?)
 }
 
-/// Draws a bundle and how many workers run it, and judges what they write: it is an output, and the replay of the bundle in
-/// the order of its entries' parties writes the same, so that each entry is the one that the rules give over those before it,
-/// and each transcript that of its lines with these answers.
+/// Draws a bundle and how many workers run it, and judges what they write by the checker, which says `Yes` exactly where it is the
+/// output of a run of the bundle.
 pub fn judge<R: Threads + Wait + Sync>(
     threads: &R,
     alloc: Global,
@@ -85,15 +76,10 @@ pub fn judge<R: Threads + Wait + Sync>(
         workers,
         &Dawdling::of(seed),
     )?;
-    let Ordered {
-        bundle: ordered,
-        counts,
-    } = in_order(alloc, users.as_str(), &output)?;
-    let judged = replayed(alloc, ordered.as_str())?;
     let alone = replayed(alloc, bundle.as_str())?;
     Ok(Judged {
-        differs: judged.as_slice() != output.as_slice(),
+        differs: !is_sound(alloc, bundle.as_str(), &output)?,
         is_other: alone.as_slice() != output.as_slice(),
-        counts,
+        counts: counts_of(alloc, &output)?,
     })
 }
