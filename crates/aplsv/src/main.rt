@@ -1,13 +1,14 @@
 // The program: it makes the devices of the machine, hands them and its words to the proved run, and tells how that ended.
 #![tactic(auto)]
 
-ghost use Rattle.std.specs.Prelude.{◌≡◌, ◌≢◌, ◌⊎◌, ℕ, IfErr, IfOk, None, Some, drop, length, map, string_bytes, vec_len};
+ghost use Rattle.std.specs.Prelude.{◌≡◌, ◌≢◌, ◌⊎◌, ◌↔◌, ℕ, IfErr, IfOk, None, Some, drop, length, map, string_bytes, vec_len};
 ghost use Rattle.std.specs.Vec.Iter.{into_iter_items, into_iter_len};
 ghost use Rattle.apl_arrays.specs.Limits.{most_input_bytes, most_users};
 ghost use Rattle.apl_io.specs.Faults.{Rose};
 ghost use Rattle.apl_io.specs.Whole.{AreAtMost};
 ghost use Rattle.aplsv_words.specs.Meaning.{Asked, Means};
 ghost use Rattle.aplsv_top.specs.Causes.{HasCause};
+ghost use Rattle.aplsv_top.specs.Checks.{AskCheck, HasCheckCause, IsCheckConclusion, most_checked_bytes};
 ghost use Rattle.aplsv_top.specs.Headline.{IsOutputAs};
 ghost use Rattle.aplsv_top.specs.Loads.{HasLoadCause, IsLoadAs};
 ghost use Rattle.aplsv_top.specs.Words.{HaveMeaning, IsConclusion};
@@ -121,6 +122,26 @@ fn run<R: Threads + Wait + Sync, S: Source, W: Sink>(
     )
 }
 
+// What the program does for its words, the program's name in front, where a check is asked for.
+fn checked<S: Source, W: Sink>(
+    alloc: Global,
+    words: &[String],
+    input: &mut S,
+    output: &mut W,
+) -> Status
+    ensures causes { AskCheck (map string_bytes (drop 1 words.now)) → HasCheckCause result
+        (record { bytes = S.left input.old; faults = S.faults input.old }) (record { bytes = S.left input.new; faults = S.faults input.new })
+        (record { bytes = W.held output.old; faults = W.faults output.old }) (record { bytes = W.held output.new; faults = W.faults output.new }) }
+    ensures usage { (result ≡ status.Usage) ↔ ¬ AskCheck (map string_bytes (drop 1 words.now)) }
+    ensures unread { result ≡ status.Usage → input.new ≡ input.old }
+    ensures unwritten { result ≢ status.Done → result ≢ status.WriteFault → ((found : Verdict) → result ≢ status.NotARun found) → output.new ≡ output.old }
+    ensures complete { AskCheck (map string_bytes (drop 1 words.now)) → AreAtMost (S.left input.old) most_checked_bytes
+        → ¬ (Rose (S.faults input.old) (S.faults input.new)) → ¬ (Rose (W.faults output.old) (W.faults output.new))
+        → IsCheckConclusion result }
+{
+    aplsv_check_words(alloc, behind_name(words), input, output)
+}
+
 // Whether a check is asked for.
 fn asks_check(words: &[String]) -> bool {
     words.iter().any(|word| word.as_str() == "--check")
@@ -159,7 +180,7 @@ fn ending<R: Threads + Wait + Sync, S: Source, W: Sink>(
 {
     let words = all_words(rt.alloc(), given)?;
     if asks_check(behind_name(&words)) {
-        Ok(aplsv_check_words(rt.alloc(), behind_name(&words), input, output))
+        Ok(checked(rt.alloc(), &words, input, output))
     } else {
         ending_of_run(rt, threads, &words, input, output)
     }
