@@ -1,5 +1,5 @@
 -- The parties of a run behind their last turn.
-use Rattle.std.proofs.Common.{◌≡◌, ℕ, ◌∷◌, ◌++◌, false, not, List, [], map, Option, IsTrue, refl, sym, ap, ap₂, ◌∙◌, subst, subst₂}
+use Rattle.std.proofs.Common.{◌≡◌, ℕ, ◌∷◌, ◌++◌, true, false, not, List, [], map, Option, IsTrue, refl, sym, ap, ap₂, ◌∙◌, subst, subst₂}
 use Rattle.std.specs.List.{AllByRecursion}
 use Rattle.std.proofs.lemmas.Bool.{and_parts, not-true}
 use Rattle.std.proofs.lemmas.List.Elements.{All-from_recursion, recursion_from_All}
@@ -34,6 +34,7 @@ use Rattle.party_turns.specs.declared.seat.UserSeat.{UserSeat}
 use Rattle.party_turns.proofs.Parts.{all_left, all_printed, dealings_of, each_deals, parts_of, serve_users}
 use Rattle.aplsv_serve.specs.Ends.{EndsWhole, HasAllOf}
 use Rattle.aplsv_serve.specs.Halls.{IsSeatAtStile, Stile, users_of_stile}
+use Rattle.aplsv_serve.specs.Receipts.{HaveReceipts}
 use Rattle.aplsv_serve.specs.Runs.{IsSomeRun}
 use Rattle.aplsv_serve.specs.Starts.{AreApart}
 use Rattle.aplsv_serve.specs.Tasks.{AuxiliaryStands, StandsAt, TaskRow, party_name}
@@ -46,7 +47,7 @@ use Rattle.aplsv_serve.specs.declared.party_task.PartyTask.{PartyTask}
 use Rattle.aplsv_serve.specs.declared.party_task.PartyTask.TheVariants as variant
 use Rattle.aplsv_serve.specs.declared.user_task.UserTask.{UserTask}
 use Rattle.aplsv_serve.proofs.Knowing.{IsKnown, far_since, is_known, work_since}
-use Rattle.aplsv_serve.proofs.Receiving.{receipts_in_parts}
+use Rattle.aplsv_serve.proofs.Receiving.{HasToldAll, receipts_of_all}
 
 -- ---- the tasks that come back
 
@@ -118,6 +119,7 @@ module _ {K : Type 0} (told : K → Option (Told (ℕ × List ℕ))) (faults : K
     pub here : seats_in sittings ≡ map (λ user. user.user) list
     pub lent : lent_to sittings ≡ map (λ user. user.began.value.session.shelf) list
     pub whole : AllByRecursion (IsWholeUnlessLost told faults journal) sittings
+    pub tells : AllByRecursion (λ sitting. has_left journal sitting.seat.session.user ≡ true → HasToldAll told faults journal sitting) sittings
 
   come_more : (first : UserTask K) (list : List (UserTask K)) → HasComeFar told faults journal first.began.value.session.shelf first.user → HaveCome list → HaveCome (first ∷ list)
   come_more first list far h = record {
@@ -125,10 +127,11 @@ module _ {K : Type 0} (told : K → Option (Told (ℕ × List ℕ))) (faults : K
     here = ap (λ (rest : List (UserSeat K)). first.user ∷ rest) h.here;
     lent = ap (λ (rest : List K). first.began.value.session.shelf ∷ rest) h.lent;
     whole = ((λ here. far.whole), h.whole);
+    tells = ((λ left. record { come = (far.whole left).come; tells = far.tells left }), h.tells);
   }
 
   pub all_come : (list : List (UserTask K)) → AllByRecursion (UserStands told faults stile) list → AllByRecursion (HasAllOf journal) (map (λ user. user.seat) list) → IsTrue (none_lost (map (λ user. user.user) list)) → HaveCome list
-  all_come [] stand all none = record { sittings = []; here = refl; lent = refl; whole = tt }
+  all_come [] stand all none = record { sittings = []; here = refl; lent = refl; whole = tt; tells = tt }
   all_come (user ∷ list) stand all none =
       let both = and_parts (not user.user.is_lost) (none_lost (map (λ (u : UserTask K). u.user) list)) none in
       come_more user list
@@ -245,5 +248,7 @@ module _ {X Y K : Type 0} (forgets_ten : X → ℕ → X → Type 0) (replies_te
               (serve_users told faults (dealings_of come.sittings) journal come.sittings bundle.users rest sat_are_users none_out come.whole left deals);
           parts = parts;
         };
-        receipts = receipts_in_parts (user_numbers bundle) (dealings_of come.sittings) journal legal bundle.users transcripts users_parts;
+        receipts = subst₂ (λ (users : List PlainUser) (list : List PlainTranscript). HaveReceipts told faults (dealings_of come.sittings) journal users list) sat_are_users (sym printed)
+            (receipts_of_all told faults (user_numbers bundle) (dealings_of come.sittings) journal come.sittings legal come.tells
+            (subst (λ (users : List PlainUser). AllByRecursion (λ (u : PlainUser). IsTrue (has_left journal u.number)) users) (sym sat_are_users) left) deals);
       }

@@ -22,7 +22,9 @@ use Rattle.party_turns.specs.declared.intent.Intent.TheVariants as intent
 use Rattle.party_turns.specs.declared.seat.UserSeat.{UserSeat}
 use Rattle.party_turns.proofs.Growth.{AreOthers, among_stays, events_stay, has_left_stays, so_far_stays}
 use Rattle.party_turns.proofs.Others.{grown_seated, grown_whole}
+use Rattle.aplsv_serve.specs.Receipts.{HasTold}
 use Rattle.aplsv_serve.specs.UserTasks.{HasComeFar, IsAboutTo, sitting_at}
+use Rattle.aplsv_serve.proofs.Receiving.{told_stays}
 
 -- what a party knew is the beginning of a journal, and the rest is of others
 pub record IsKnown (party : ℕ) (known journal : Entries) : Type 0 where
@@ -64,6 +66,9 @@ module _ {K : Type 0} (told : K → Option (Told (ℕ × List ℕ))) (faults : K
     exchanges = h.exchanges;
     seated = grown_seated told faults k.since known journal (sitting_at lent user h.exchanges) k.is k.others h.seated;
     whole = grown_whole told faults k.since known journal (sitting_at lent user h.exchanges) k.is k.others h.whole;
+    tells = λ left.
+        subst (λ (j : Entries). HasTold j h.exchanges user.session) (sym k.is)
+        (told_stays k.since known h.exchanges user.session k.others (h.tells (sym (left_since user.session.user known journal k) ∙ left)));
   }
 
   -- and is about to do the same

@@ -67,7 +67,7 @@ module _ {K : Type 0} (told : K → Option (Told (ℕ × List ℕ))) (faults : K
     stays = λ going. ap (λ (j : Entries). has_left j task.user.session.user) fresh.nothing_known;
     far = λ here.
         subst₂ (λ (began : UserSeat K) (j : Entries). HasComeFar told faults j began.session.shelf task.user) (sym new.began) (sym fresh.nothing_known)
-        (record { exchanges = []; seated = seated; whole = λ left. absurd (let no : false ≡ true = left in cc) });
+        (record { exchanges = []; seated = seated; whole = λ left. absurd (let no : false ≡ true = left in cc); tells = λ left. absurd (let no : false ≡ true = left in cc) });
   }
 
   pub new_users : (tasks : List (UserTask K)) → AllByRecursion IsNewUser tasks → AllByRecursion (IsFreshSeat stile) (map (λ (t : UserTask K). t.seat) tasks) → map (λ (t : UserTask K). t.seat.party) tasks ≡ map (λ (t : UserTask K). t.user.session.user) tasks

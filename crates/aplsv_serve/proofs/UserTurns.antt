@@ -17,7 +17,9 @@ use Rattle.party_turns.specs.declared.intent.Intent.TheVariants as intent
 use Rattle.party_turns.specs.declared.seat.UserSeat.{UserSeat}
 use Rattle.party_turns.proofs.Leaving.{has_left_now}
 use Rattle.party_turns.proofs.Phases.{is_about, part_at_end}
+use Rattle.aplsv_serve.specs.Receipts.{HasTold}
 use Rattle.aplsv_serve.specs.UserTasks.{HasComeFar, IsAboutTo, WillHaveComeFar, goes_on, sitting_at}
+use Rattle.aplsv_serve.proofs.Receiving.{told_at_end}
 
 -- ---- entries
 
@@ -60,18 +62,21 @@ module _ {K : Type 0} (told : K → Option (Told (ℕ × List ℕ))) (faults : K
     come = h.come;
     so_far = λ stays now. brings.on.so_far now;
     part = λ left. absurd (both_ways (has_left after.journal user.session.user) brings.on.stays left);
+    tells = λ left. absurd (both_ways (has_left after.journal user.session.user) brings.on.stays left);
   }
   will_come before after lent user intent.TryAgain answer h brings = record {
     exchanges = h.exchanges;
     come = h.come;
     so_far = λ stays now. brings.so_far now;
     part = λ left. absurd (both_ways (has_left after.journal user.session.user) brings.stays left);
+    tells = λ left. absurd (both_ways (has_left after.journal user.session.user) brings.stays left);
   }
   will_come before after lent user intent.Leave answer h brings = record {
     exchanges = h.exchanges;
     come = h.come;
     so_far = λ stays now. absurd (both_ways (has_left after.journal user.session.user) stays (has_left_now before after user.session.user brings.0));
     part = λ left. (brings.1, record { finished = h.ready.finished; come = h.come; part = part_at_end h.exchanges before after user.session h.ready brings.0 });
+    tells = λ left. told_at_end told faults lent h.exchanges before after user.session h.come h.ready brings.0;
   }
 
   -- ---- behind the turn
@@ -92,4 +97,9 @@ module _ {K : Type 0} (told : K → Option (Told (ℕ × List ℕ))) (faults : K
         let still : then.session ≡ user.session = hears ∙ ap (λ (o : Option PlainAnswer). heard_if o then.session user.session) gone.0 in
         subst (λ (t : PlainSession K). HasPart told faults journal (sitting_at lent (let u : UserSeat K = record { session = t; is_lost = then.is_lost } in u) will.exchanges)) (sym still)
         (record { finished = gone.1.finished; come = gone.1.come; part = gone.1.part });
+    tells = λ left.
+        let there : has_left journal user.session.user ≡ true = ap (λ (n : ℕ). has_left journal n) same ∙ left in
+        let gone = will.part there in
+        let still : then.session ≡ user.session = hears ∙ ap (λ (o : Option PlainAnswer). heard_if o then.session user.session) gone.0 in
+        subst (λ (t : PlainSession K). HasTold journal will.exchanges t) (sym still) (will.tells there);
   }

@@ -15,11 +15,11 @@ use Rattle.aplsv_serve.specs.Receipts.{HaveReceipts}
 module _ {X Y K : Type 0} (forgets_ten : X → ℕ → X → Type 0) (replies_ten : X → ℕ → PlainArray → PlainArray → X → Type 0)
     (forgets_twenty : Y → ℕ → Y → Type 0) (replies_twenty : Y → ℕ → PlainArray → PlainArray → Y → Type 0)
     (told : K → Option (Told (ℕ × List ℕ))) (faults : K → ℕ) where
-  -- a run of a bundle, with some dealings, and with receipts of each user's session
+  -- a run of a bundle, with some dealings, and with the receipts of each user's session
   pub record IsSomeRun (bundle : PlainBundle) (journal : Entries) (transcripts : List PlainTranscript) (ten ten_then : X) (twenty twenty_then : Y) (shelves shelves_then : List K) : Type 0 where
     pub dealings : Dealings
     pub run : IsRun forgets_ten replies_ten forgets_twenty replies_twenty told faults bundle dealings journal transcripts ten ten_then twenty twenty_then shelves shelves_then
-    pub receipts : HaveReceipts dealings journal bundle.users transcripts
+    pub receipts : HaveReceipts told faults dealings journal bundle.users transcripts
 
 -- one whose auxiliaries are the clock and the text files: the protocol of text files begins between files, and stands somewhere at the end
 pub record IsRunOverDevices {C T K : Type 0} (ticks : C → Option Ticks) (clock_faults : C → ℕ) (text_told : T → Option (Told (List ℕ))) (text_faults : T → ℕ) (told : K → Option (Told (ℕ × List ℕ))) (faults : K → ℕ)

@@ -13,6 +13,7 @@ use Rattle.party_turns.specs.SoFar.{HasPart, IsSameUser, IsSeated, IsSessionSoFa
 use Rattle.party_turns.specs.declared.intent.Intent.{Intent}
 use Rattle.party_turns.specs.declared.intent.Intent.TheVariants as intent
 use Rattle.party_turns.specs.declared.seat.UserSeat.{UserSeat}
+use Rattle.aplsv_serve.specs.Receipts.{HasTold}
 use Rattle.aplsv_serve.specs.Halls.{IsSeatAtStile, Stile, users_of_stile}
 use Rattle.aplsv_serve.specs.declared.user_task.UserTask.{UserTask}
 
@@ -31,11 +32,12 @@ abbrev pub lent_to : {K : Type 0} → UserTask K → K
 lent_to task = task.began.value.session.shelf
 
 module _ {K : Type 0} (told : K → Option (Told (ℕ × List ℕ))) (faults : K → ℕ) where
-  -- a user has come this far in a journal: while it has not left it is so far, and once it has left it has its part
+  -- a user has come this far in a journal: while it has not left it is so far, and once it has left it has its part, and its session has told so
   pub record HasComeFar (journal : Entries) (lent : K) (user : UserSeat K) : Type 0 where
     pub exchanges : List Exchange
     pub seated : IsSeated told faults journal (sitting_at lent user exchanges)
     pub whole : SittingIsWhole told faults journal (sitting_at lent user exchanges)
+    pub tells : has_left journal user.session.user ≡ true → HasTold journal exchanges user.session
 
   -- it will have, once its session has heard the answer of its turn, if there is one
   pub record WillHaveComeFar (journal : Entries) (lent : K) (user : UserSeat K) (answer : Option PlainAnswer) : Type 0 where
@@ -43,6 +45,7 @@ module _ {K : Type 0} (told : K → Option (Told (ℕ × List ℕ))) (faults : K
     pub come : HasCome told faults lent exchanges user.session
     pub so_far : has_left journal user.session.user ≡ false → (now : PlainSession K) → IsSessionSoFar journal exchanges (heard_if answer now user.session)
     pub part : has_left journal user.session.user ≡ true → (answer ≡ None) × HasPart told faults journal (sitting_at lent user exchanges)
+    pub tells : has_left journal user.session.user ≡ true → HasTold journal exchanges user.session
 
   -- a user is about to do this: it may, with the exchanges that it had
   pub record IsAboutTo (journal : Entries) (lent : K) (user : UserSeat K) (about : Intent) : Type 0 where
