@@ -1,7 +1,8 @@
 // The program: it makes the devices of the machine, hands them and its words to the proved run, and tells how that ended.
 #![tactic(auto)]
 
-ghost use Rattle.std.specs.Prelude.{◌≡◌, ◌≢◌, ◌⊎◌, ◌↔◌, ℕ, IfErr, IfOk, None, Some, drop, length, map, string_bytes, vec_len};
+ghost use Rattle.std.specs.Prelude.{◌≡◌, ◌≢◌, ◌⊎◌, ◌↔◌, ℕ, IfErr, IfOk, IsOk, None, Some, bytes_eq, codes, drop, length, map, string_bytes, vec_len};
+ghost use Rattle.std.specs.List.{list_any};
 ghost use Rattle.std.specs.Vec.Iter.{into_iter_items, into_iter_len};
 ghost use Rattle.apl_arrays.specs.Limits.{most_input_bytes, most_users};
 ghost use Rattle.apl_io.specs.Faults.{Rose};
@@ -142,9 +143,18 @@ fn checked<S: Source, W: Sink>(
     aplsv_check_words(alloc, behind_name(words), input, output)
 }
 
-// Whether a check is asked for.
-fn asks_check(words: &[String]) -> bool {
-    words.iter().any(|word| word.as_str() == "--check")
+// Whether a word asks for a check.
+fn is_check(word: &String) -> bool
+    ensures { result ≡ bytes_eq (string_bytes word.now) (codes "--check") }
+{
+    word.as_str() == "--check"
+}
+
+// Whether a check is asked for: by one of the words.
+fn asks_check(words: &[String]) -> bool
+    ensures { result ≡ list_any (λ word. bytes_eq (string_bytes word) (codes "--check")) words.now }
+{
+    words.iter().any(|word| is_check(word))
 }
 
 // How it ends over the devices of the machine, for the words of the process.
@@ -166,7 +176,30 @@ fn ending_of_run<R: Threads + Wait + Sync, S: Source, W: Sink>(
     Ok(status)
 }
 
-// How it ends for the words of the process: a check, where one is asked for, and else a run.
+// How it ends for its words: a check, where one is asked for, and else a run.
+fn ending_by_words<R: Threads + Wait + Sync, S: Source, W: Sink>(
+    rt: HostRuntime,
+    threads: &R,
+    words: &[String],
+    input: &mut S,
+    output: &mut W,
+) -> Result<Status, WantOfMemory>
+    ensures check { IfOk result (λ ending. AskCheck (map string_bytes (drop 1 words.now)) → HasCheckCause ending
+        (record { bytes = S.left input.old; faults = S.faults input.old }) (record { bytes = S.left input.new; faults = S.faults input.new })
+        (record { bytes = W.held output.old; faults = W.faults output.old }) (record { bytes = W.held output.new; faults = W.faults output.new })) }
+    ensures always { AskCheck (map string_bytes (drop 1 words.now)) → IsOk result }
+    ensures unread { IfOk result (λ ending. ending ≡ status.Usage → input.new ≡ input.old) }
+    ensures unwritten { IfOk result (λ ending. ending ≢ status.Done → ending ≢ status.WriteFault → ((found : Verdict) → ending ≢ status.NotARun found) → output.new ≡ output.old) }
+    ensures refused { IfErr result (λ _. (input.new ≡ input.old) × (output.new ≡ output.old)) }
+{
+    if asks_check(behind_name(words)) {
+        Ok(checked(rt.alloc(), words, input, output))
+    } else {
+        ending_of_run(rt, threads, words, input, output)
+    }
+}
+
+// How it ends for the words of the process.
 fn ending<R: Threads + Wait + Sync, S: Source, W: Sink>(
     rt: HostRuntime,
     threads: &R,
@@ -179,11 +212,7 @@ fn ending<R: Threads + Wait + Sync, S: Source, W: Sink>(
     ensures refused { IfErr result (λ _. (input.new ≡ input.old) × (output.new ≡ output.old)) }
 {
     let words = all_words(rt.alloc(), given)?;
-    if asks_check(behind_name(&words)) {
-        Ok(checked(rt.alloc(), &words, input, output))
-    } else {
-        ending_of_run(rt, threads, &words, input, output)
-    }
+    ending_by_words(rt, threads, &words, input, output)
 }
 
 // The same, where words that are no text have no meaning.
