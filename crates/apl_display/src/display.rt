@@ -1,4 +1,5 @@
-ghost use Rattle.std.specs.Prelude.{◌≡◌, ◌<◌, ◌≤◌, ◌∷◌, [], ◌++◌, IfOk, OnOk, length, map};
+ghost use Rattle.std.specs.Prelude.{◌≡◌, ◌<◌, ◌≤◌, ◌∷◌, [], ◌++◌, IfOk, OnOk, length, map, OnErr};
+ghost use Rattle.apl_arrays.specs.Front.{KeepsFront};
 ghost use Rattle.apl_arrays.specs.Array.{seen_items, item_count};
 ghost use Rattle.apl_display.specs.Display.{item_line, display_lines};
 ghost use Rattle.line_text.specs.Spaced.{spaced};
@@ -49,7 +50,8 @@ fn table_lines(alloc: Global, b: &Array) -> Result<LineList, WantOfMemory>
 
 // Adds lines.
 fn add_all(lines: &mut LineList, more: LineList) -> Result<(), WantOfMemory>
-    ensures { OnOk result (lines.new.items ≡ lines.old.items ++ more.items) }
+    ensures text { OnOk result (lines.new.items ≡ lines.old.items ++ more.items) }
+    ensures front { OnErr result (KeepsFront lines.old.items lines.new.items) }
 {
     for line in more.into_vec() {
         lines.push(line)?;
@@ -60,7 +62,8 @@ fn add_all(lines: &mut LineList, more: LineList) -> Result<(), WantOfMemory>
 /// Adds the lines that show an array, as `lines_of` has them. It takes memory for them, and for a number a column; where
 /// that runs out, some of them may stand there.
 pub fn add_lines(alloc: Global, lines: &mut LineList, b: &Array) -> Result<(), WantOfMemory>
-    ensures { OnOk result (lines.new.items ≡ lines.old.items ++ display_lines b.now) }
+    ensures text { OnOk result (lines.new.items ≡ lines.old.items ++ display_lines b.now) }
+    ensures front { OnErr result (KeepsFront lines.old.items lines.new.items) }
 {
     if b.shape().len() < 2 {
         return lines.push(item_line(alloc, b.items())?);

@@ -39,6 +39,7 @@ pub fn add_word(alloc: Global, bytes: &mut Vec<u8>, word: &str) -> Result<(), Wa
 /// there.
 pub fn add_heading(alloc: Global, bytes: &mut Vec<u8>, number: u32) -> Result<(), WantOfMemory>
     ensures text { OnOk result (bytes.new.items ≡ bytes.old.items ++ line_text (heading number)) }
+    ensures front { OnErr result (KeepsFront bytes.old.items bytes.new.items) }
     ensures printable { number < 2 ^ 64 }
 {
     let mut line = List::new(alloc);
@@ -52,6 +53,7 @@ pub fn add_heading(alloc: Global, bytes: &mut Vec<u8>, number: u32) -> Result<()
 pub fn add_content(bytes: &mut Vec<u8>, line: &Line) -> Result<(), WantOfMemory>
     ensures text { OnOk result (bytes.new.items
         ≡ bytes.old.items ++ line_text (content line.now.items)) }
+    ensures front { OnErr result (KeepsFront bytes.old.items bytes.new.items) }
     ensures printable { OnOk result (All IsGlyph line.now.items) }
 {
     bytes.push(b'|')?;
@@ -63,6 +65,7 @@ pub fn add_content(bytes: &mut Vec<u8>, line: &Line) -> Result<(), WantOfMemory>
 pub fn add_contents(bytes: &mut Vec<u8>, lines: &[Line]) -> Result<(), WantOfMemory>
     ensures text { OnOk result (bytes.new.items
         ≡ bytes.old.items ++ lines_text (map content (map glyphs_in lines.now))) }
+    ensures front { OnErr result (KeepsFront bytes.old.items bytes.new.items) }
     ensures printable { OnOk result (All (λ line. All IsGlyph line) (map glyphs_in lines.now)) }
 {
     for line in lines {
@@ -81,6 +84,7 @@ pub fn add_user_lines(
 ) -> Result<(), WantOfMemory>
     ensures text { OnOk result (bytes.new.items
         ≡ bytes.old.items ++ lines_text (user_lines number (map glyphs_in lines.now))) }
+    ensures front { OnErr result (KeepsFront bytes.old.items bytes.new.items) }
     ensures number { number < 2 ^ 64 }
     ensures printable { OnOk result (All (λ line. All IsGlyph line) (map glyphs_in lines.now)) }
 {

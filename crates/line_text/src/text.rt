@@ -52,7 +52,8 @@ pub fn add_blank(line: &mut Line) -> Result<(), WantOfMemory>
 /// Adds so many blanks at the end of a line. It takes memory for them; where that runs out, some of the blanks may stand
 /// there.
 pub fn add_blanks(line: &mut Line, count: usize) -> Result<(), WantOfMemory>
-    ensures { OnOk result (line.new.items ≡ line.old.items ++ replicate count blank) }
+    ensures text { OnOk result (line.new.items ≡ line.old.items ++ replicate count blank) }
+    ensures front { OnErr result (KeepsFront line.old.items line.new.items) }
 {
     for _ in 0..count {
         add_blank(line)?;
