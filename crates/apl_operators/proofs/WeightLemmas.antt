@@ -42,7 +42,7 @@ abbrev pub exactly : (ℤ → ℤ → ℤ) → (ℕ → ℤ) → ℕ → ℕ →
 exactly op number from zero = number from
 exactly op number from (suc more) = op (number from) (exactly op number (from + 1) more)
 
-fits_below : (z : ℤ) (n : ℕ) → unsigned_abs z ≤ n → n < 2 ^ 63 → Fits z
+pub fits_below : (z : ℤ) (n : ℕ) → unsigned_abs z ≤ n → n < 2 ^ 63 → Fits z
 fits_below (pos m) n h below = grind (arith, nat_tests)
 fits_below (negsuc m) n h below = grind (arith, nat_tests)
 

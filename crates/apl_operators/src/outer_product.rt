@@ -1,14 +1,17 @@
 ghost use Rattle.std.specs.Prelude.{◌≡◌, ◌*◌, ◌<◌, ◌≤◌, ◌^◌, ◌==◌, Option, pos, false, length, slice_index, slice_index_or};
 ghost use Rattle.apl_arrays.specs.Array.{seen_items, chars, element_count, item_count, numbers};
 ghost use Rattle.apl_arrays.specs.Limits.{most_axes};
+ghost use Rattle.apl_verbs.specs.declared.verb.Dyad.TheVariants.{Plus};
 ghost use Rattle.apl_items.specs.Answers.{AnswersFirst};
 ghost use Rattle.apl_scalar.specs.Table.{dyadic_item, item_of_chars};
 ghost use Rattle.operator_rules.specs.Gathering.{numbers_answer};
 ghost use Rattle.operator_rules.specs.Outer.{outer_at, outer_product_of};
 ghost use Rattle.operator_rules.specs.Reduction.{Joins, Tells};
+ghost use Rattle.apl_operators.specs.Running.{AreSmall};
 
 use crate::items::takes_all;
 use crate::rows::numbers_by_rows;
+use crate::sums::{are_small, small_sum};
 use apl_arrays::{Array, Fail, Glyph, ItemsRef, RANK_LIMIT, Report, shape_fault};
 use apl_items::joined_shape;
 use apl_scalar::{character_of, dyadic_table, rules};
@@ -63,14 +66,43 @@ fn all_pairs(
     }
 }
 
-/// All pairs of numbers. The function is chosen once.
+/// All pairs of numbers: small ones are added with no test, else the function is chosen once.
 fn number_pairs(alloc: Global, f: Dyad, shape: &[u32], a: &[i64], b: &[i64]) -> Result<Array, Fail>
     requires rank { length shape.now ≤ most_axes }
     requires count { length a.now * length b.now ≡ element_count shape.now }
     requires fits { length a.now * length b.now < 2 ^ 64 }
     ensures { AnswersFirst result (numbers_answer shape.now (outer_at f (numbers a.now) (numbers b.now))) }
 {
+    if let Dyad::Plus = f {
+        if are_small(a, 2) && are_small(b, 2) {
+            return small_pairs(alloc, shape, a, b);
+        }
+    }
     dyadic_table!(f, all_pairs_of(alloc, f, shape, a, b))
+}
+
+/// The sums of all pairs of small numbers, of which none leaves 64 bits.
+fn small_pairs(alloc: Global, shape: &[u32], a: &[i64], b: &[i64]) -> Result<Array, Fail>
+    requires rank { length shape.now ≤ most_axes }
+    requires count { length a.now * length b.now ≡ element_count shape.now }
+    requires fits { length a.now * length b.now < 2 ^ 64 }
+    requires left { AreSmall a.now 2 }
+    requires right { AreSmall b.now 2 }
+    ensures { AnswersFirst result (numbers_answer shape.now (outer_at Plus (numbers a.now) (numbers b.now))) }
+{
+    numbers_by_rows(
+        alloc,
+        shape,
+        a.len(),
+        b.len(),
+        &|row: usize, column: usize| -> Option<i64>
+            requires left { AreSmall a.now 2 }
+            requires right { AreSmall b.now 2 }
+            requires row { row < length a.now }
+            requires column { column < length b.now }
+            ensures { result ≡ dyadic_item Plus (slice_index_or a.entry.now row (pos 0)) (slice_index_or b.entry.now column (pos 0)) }
+        { Some(small_sum(a, row, b, column)) },
+    )
 }
 
 /// All pairs of numbers, by the rule of a function.

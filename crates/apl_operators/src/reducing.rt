@@ -1,5 +1,6 @@
 ghost use Rattle.std.specs.Prelude.{◌≡◌, ◌*◌, ◌<◌, ◌-◌, ◌/◌, Option, Some, length, slice_index};
 ghost use Rattle.apl_arrays.specs.Array.{seen_items, FitsLimits, chars, element_count, item_count, numbers};
+ghost use Rattle.apl_verbs.specs.declared.verb.Dyad.TheVariants.{Plus};
 ghost use Rattle.apl_items.specs.Answers.{AnswersFirst};
 ghost use Rattle.apl_items.specs.Shapes.{place_along, split_count};
 ghost use Rattle.apl_scalar.specs.Table.{dyadic_item, item_of_chars};
@@ -7,12 +8,14 @@ ghost use Rattle.apl_items.specs.Axis.{without};
 ghost use Rattle.operator_rules.specs.Gathering.{gathered, number_in};
 ghost use Rattle.operator_rules.specs.Reduce.{reduce_of, reduced, reduced_line};
 ghost use Rattle.operator_rules.specs.Reduction.{Joins, Tells, front_of_line, item_in, joined_by, reduction};
+ghost use Rattle.apl_operators.specs.Running.{AreSmall};
 
 use crate::identities::identities;
 use crate::items::{joined_by, number_in};
 use crate::lines::{LineAt, last_front};
 use crate::reduction::reduced;
 use crate::rows::numbers_by_rows;
+use crate::sums::{are_small, sum_of_line};
 use apl_arrays::{
     Array, Fail, Glyph, Item, Items, ItemsRef, List, NumberList, Report, Way, count_of_elements,
 };
@@ -110,7 +113,8 @@ fn lines_of_items(
     }
 }
 
-/// The reductions of lines of numbers. The function is chosen once.
+/// The reductions of lines of numbers: small ones that stand one after another are added with no test, else the function is
+/// chosen once.
 fn number_lines(
     alloc: Global,
     f: Dyad,
@@ -124,7 +128,39 @@ fn number_lines(
     requires lines { split.outer * split.inner ≡ element_count shape.now }
     ensures { AnswersFirst result (gathered shape.now (reduced_line f (numbers list.now) split)) }
 {
+    if let Dyad::Plus = f {
+        if split.inner == 1 && are_small(list, split.along) {
+            return small_lines(alloc, shape, list, split);
+        }
+    }
     dyadic_table!(f, all_lines_of(alloc, f, shape, list, split))
+}
+
+/// The sums of lines of small numbers that stand one after another.
+fn small_lines(alloc: Global, shape: &[u32], list: &[i64], split: Split) -> Result<Array, Fail>
+    requires fits { FitsLimits shape.now }
+    requires some { 0 < split.along }
+    requires lone { split.inner ≡ 1 }
+    requires whole { split_count split ≡ length list.now }
+    requires lines { split.outer * split.inner ≡ element_count shape.now }
+    requires small { AreSmall list.now split.along }
+    ensures { AnswersFirst result (gathered shape.now (reduced_line Plus (numbers list.now) split)) }
+{
+    numbers_by_rows(
+        alloc,
+        shape,
+        split.outer,
+        split.inner,
+        &|outer: usize, inner: usize| -> Option<i64>
+            requires some { 0 < split.along }
+            requires lone { split.inner ≡ 1 }
+            requires whole { split_count split ≡ length list.now }
+            requires small { AreSmall list.now split.along }
+            requires outer { outer < split.outer }
+            requires inner { inner ≡ 0 }
+            ensures { result ≡ front_of_line (dyadic_item Plus) list.entry.now split outer inner (split.along - 1) }
+        { Some(sum_of_line(list, split, outer)) },
+    )
 }
 
 /// The reductions of lines of numbers, by the rule of a function.

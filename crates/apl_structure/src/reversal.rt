@@ -8,7 +8,7 @@ ghost use Rattle.apl_structure.specs.Reversal.{from_the_end, reverse_of, reverse
 
 use crate::moves::moved_on;
 use apl_arrays::{Array, Fail, Items, ItemsRef, List, NumberList, Report, WantOfMemory, Way};
-use apl_items::{Along, axis_of, lacks_axis};
+use apl_items::{Along, axis_of, lacks_axis, room_for};
 use std::alloc::Global;
 
 /// An array with its items in reverse order along an axis, the last or the first where none is named; a scalar is
@@ -78,8 +78,10 @@ fn turned_items(alloc: Global, items: ItemsRef<'_>) -> Result<Items, WantOfMemor
 fn turned_list<T: Copy + Drop>(alloc: Global, list: &[T]) -> Result<List<T>, WantOfMemory>
     ensures { IfOk result (λ made. made.items ≡ backwards list.now) }
 {
-    let mut made = Vec::from_slice(alloc, list)?;
-    made.reverse();
+    let mut made = room_for(alloc, list.len())?;
+    for gone in 0..list.len() {
+        made.push_reserved(list[list.len() - 1 - gone]);
+    }
     Ok(List::from(made))
 }
 
