@@ -1,6 +1,6 @@
 -- Items of a value are replaced, and values that were got.
 use Rattle.std.proofs.Common.{◌≡◌, ◌<◌, ◌≤◌, ◌+◌, ◌-◌, ℕ, Bool, true, false, cond, List, [], ◌∷◌, length, refl, sym, ap, subst, ◌∙◌, arith}
-use Rattle.std.specs.Prelude.{Option, Some, None, Ok, Err, IfSome, count_by, if◌then◌else◌, is_some, map, nat_lt}
+use Rattle.std.specs.Prelude.{Option, Some, None, Result, Ok, Err, IfErr, IfOk, IsOk, is_ok, count_by, if◌then◌else◌, is_some, map, nat_lt}
 use Rattle.std.proofs.lemmas.Bool.{false≢true}
 use Rattle.std.proofs.lemmas.Bool.Decides.{nat_tests}
 use Rattle.std.proofs.lemmas.List.{length-map, length-reverse}
@@ -10,8 +10,9 @@ use Rattle.apl_arrays.specs.declared.report.Fail.{Fail}
 use Rattle.apl_arrays.specs.declared.report.Fail.TheVariants as fail
 use Rattle.apl_arrays.specs.declared.report.Report.{Report}
 use Rattle.apl_arrays.specs.declared.report.Report.TheVariants.{Syntax, Value}
-use Rattle.apl_items.specs.Answers.{ArrayResult, Answers, first_report, unless}
-use Rattle.apl_selection.specs.Assignment.{assign_faults, assign_of, overlaid_array}
+use Rattle.apl_items.specs.Answers.{ArrayResult, Answers}
+use Rattle.apl_items.specs.Places.{OnWantOfMemory}
+use Rattle.apl_selection.specs.Assignment.{assign_of}
 use Rattle.apl_workspace.specs.Workspace.{PlainWorkspace, is_assignable, look}
 use Rattle.apl_workspace.specs.declared.meaning.Meaning.{Meaning}
 use Rattle.apl_workspace.specs.declared.meaning.Meaning.TheVariants as meaning
@@ -25,15 +26,14 @@ use Rattle.apl_values.specs.Values.{stack_value}
 use Rattle.apl_statements.specs.declared.evaluation.Evaluation.{Evaluation}
 use Rattle.apl_statements.specs.Evaluating.{caller_of, evaluation_of}
 use Rattle.apl_statements.specs.Interpreter.{PlainInterpreter, here, state_at}
-use Rattle.apl_statements.specs.Moves.{Comes, part_gives, part_takes}
+use Rattle.apl_statements.specs.Moves.{Comes, Coming, part_gives, part_takes}
 use Rattle.apl_statements.specs.Stack.{carried_on, onward}
 use Rattle.apl_statements.specs.Holding.{parts_of, stack_values}
 use Rattle.apl_statements.proofs.Opened.{use_opens}
 use Rattle.apl_statements.proofs.Same.{SameAt, at_once}
 use Rattle.apl_statements.proofs.Steps.{grouped}
 use Rattle.apl_statements.proofs.Taken.{items_take, items_where}
-use Rattle.apl_subscripts.specs.Held.{MayBeReplaced, behind_subs, replacing_report, subs_held}
-use Rattle.apl_answers.proofs.Wanting.{unless_none}
+use Rattle.apl_subscripts.specs.Held.{IsReplacement, MayBeReplaced, behind_subs, replaced_by, subs_held}
 
 -- items of the value that a name has
 pub value_replaced : (m : PlainInterpreter) (e : Evaluation) (name : List ℕ) (subs : List (Option PlainArray)) (right old : PlainArray) → SameAt m (part_gives m e (items_where (meaning.Value old) name subs right)) (part_gives m e (replaced name subs right old))
@@ -137,17 +137,21 @@ step_by_count name places all s false code is =
     let left : length (popped places all).values ≡ length all - count_by is_some places = popped_length places all in
     step_of_none name (popped places all).subs (popped places all).values s (omega (arith, few, left))
 
+-- no array
+abbrev no_array : Option PlainArray
+no_array = None
+
 -- as many values as are held
 many_held : (w : PlainWorkspace) (e : Evaluation) → length e.values.items ≡ length (stack_values w e)
 many_held w e = sym (length-reverse (map (stack_value w (parts_of e)) e.values.items) ∙ length-map e.values.items (stack_value w (parts_of e)))
 
-share_by_count : (given all : ℕ) (why : Report) (b : Bool) → nat_lt given all ≡ b → Some why ≡ (if b then None else Some Value) → (why ≡ Value) × (all ≤ given)
-share_by_count given all why true is e = absurd (let no_report : Some why ≡ None = e in cc)
-share_by_count given all why false is e = let same : why ≡ Value = cc in (same, not_below given all is)
+share_by_count : (given all : ℕ) (why : Fail) (b : Bool) → nat_lt given all ≡ b → Err why ≡ (if b then Ok no_array else Err (fail.Report Value)) → (why ≡ fail.Report Value) × (all ≤ given)
+share_by_count given all why true is e = absurd (let no_report : Err why ≡ Ok no_array = e in cc)
+share_by_count given all why false is e = let same : why ≡ fail.Report Value = cc in (same, not_below given all is)
 
-some_by_count : (given all : ℕ) (b : Bool) → nat_lt given all ≡ b → None ≡ (if b then None else Some Value) → given < all
-some_by_count given all true is e = below given all is
-some_by_count given all false is e = absurd (let no_report : None ≡ Some Value = e in cc)
+some_by_count : (given all : ℕ) (made : Option PlainArray) (b : Bool) → nat_lt given all ≡ b → Ok made ≡ (if b then Ok no_array else Err (fail.Report Value)) → (made ≡ None) × (given < all)
+some_by_count given all made true is e = let same : made ≡ None = cc in (same, below given all is)
+some_by_count given all made false is e = absurd (let no_report : Ok made ≡ Err (fail.Report Value) = e in cc)
 
 -- the line ends, by SYNTAX ERROR where there is a right side
 pub items_of_code : (m : PlainInterpreter) (e : Evaluation) (name : List ℕ) (places : List (Option ℕ)) (why : Report) → is_assignable (look m.workspace name) ≡ false → why ≡ (if nat_lt (count_by is_some places) (length e.values.items) then Syntax else Value)
@@ -164,65 +168,70 @@ items_of_code m e name places why code is =
 
 -- ---- items of a shared name, and of a value
 
--- a shared name has a right side, or the line ends by VALUE ERROR
-items_of_share : (m : PlainInterpreter) (e : Evaluation) (name : List ℕ) (places : List (Option ℕ)) (why : Report) → Some why ≡ (if nat_lt (count_by is_some places) (length e.values.items) then None else Some Value)
-    → Comes m (part_takes m e (λ values. items_step name (popped places values).subs (popped places values).values)) 0 m (Err (fail.Report why))
-items_of_share m e name places why is =
+-- what is told of a shared name
+abbrev ToldOfShare : Evaluation → List (Option ℕ) → Result (Option PlainArray) Fail → Type 0
+ToldOfShare e places told = told ≡ (if nat_lt (count_by is_some places) (length e.values.items) then Ok no_array else Err (fail.Report Value))
+
+-- it has a right side, or the line ends by VALUE ERROR
+pub share_ends : (m : PlainInterpreter) (e : Evaluation) (name : List ℕ) (places : List (Option ℕ)) (told : Result (Option PlainArray) Fail) → ToldOfShare e places told
+    → IfErr told (λ why. Comes m (part_takes m e (λ values. items_step name (popped places values).subs (popped places values).values)) 0 m (Err why))
+share_ends m e name places (Ok made) is = tt
+share_ends m e name places (Err why) is =
+    let coming : Coming = part_takes m e (λ values. items_step name (popped places values).subs (popped places values).values) in
     let all : List PlainArray = stack_values m.workspace e in
     let many : length e.values.items ≡ length all = many_held m.workspace e in
-    let none = share_by_count (count_by is_some places) (length all) why (nat_lt (count_by is_some places) (length all)) refl (is ∙ ap (λ (n : ℕ). if nat_lt (count_by is_some places) n then None else Some Value) many) in
+    let none = share_by_count (count_by is_some places) (length all) why (nat_lt (count_by is_some places) (length all)) refl (is ∙ ap (λ (n : ℕ). if nat_lt (count_by is_some places) n then Ok no_array else Err (fail.Report Value)) many) in
     let left : length (popped places all).values ≡ length all - count_by is_some places = popped_length places all in
     let few : length all ≤ count_by is_some places = none.1 in
-    at_once m (part_takes m e (λ values. items_step name (popped places values).subs (popped places values).values)) (λ s. refuses why s) (λ asked count taken further.
-    let s : State = state_at m asked count taken further in
+    subst (λ (f : Fail). Comes m coming 0 m (Err f)) (sym none.0)
+    (at_once m coming (λ s. refuses Value s) (λ asked count taken further.
     ap (λ (o : Outcome Values). and_then o (λ values t. onward (record (evaluation_of m.workspace e) { values = values }) m.stack t))
-    (step_of_none name (popped places all).subs (popped places all).values s (omega (arith, few, left)))
-    ∙ ap (λ (r : Report). refuses r s) (sym none.0))
+    (step_of_none name (popped places all).subs (popped places all).values (state_at m asked count taken further) (omega (arith, few, left)))))
 
--- the same of what is told, if anything is
-pub told_of_share : (m : PlainInterpreter) (e : Evaluation) (name : List ℕ) (places : List (Option ℕ)) (told : Option Report) → told ≡ (if nat_lt (count_by is_some places) (length e.values.items) then None else Some Value)
-    → IfSome told (λ why. Comes m (part_takes m e (λ values. items_step name (popped places values).subs (popped places values).values)) 0 m (Err (fail.Report why)))
-told_of_share m e name places None is = tt
-told_of_share m e name places (Some why) is = items_of_share m e name places why is
+shared_there : (copy : Option PlainArray) (subs : List (Option PlainArray)) (values : List PlainArray) → 0 < length values → MayBeReplaced (meaning.Shared copy) subs values
+shared_there copy subs [] some = absurd (omega (arith, some))
+shared_there copy subs (right ∷ values) some = tt
 
-shared_there : (seen : Meaning) (copy : Option PlainArray) (subs : List (Option PlainArray)) (values : List PlainArray) → seen ≡ meaning.Shared copy → 0 < length values → MayBeReplaced seen subs values
-shared_there seen copy subs [] is some = absurd (omega (arith, some))
-shared_there seen copy subs (right ∷ values) is some = subst (λ (x : Meaning). MayBeReplaced x subs (right ∷ values)) (sym is) tt
-
-pub share_takes_items : (m : PlainInterpreter) (e : Evaluation) (name : List ℕ) (places : List (Option ℕ)) (copy : Option PlainArray) → look m.workspace name ≡ meaning.Shared copy → None ≡ (if nat_lt (count_by is_some places) (length e.values.items) then None else Some Value)
-    → MayBeReplaced (look m.workspace name) (subs_held m.workspace e places) (behind_subs m.workspace e places)
-share_takes_items m e name places copy seen is =
+pub share_is_used : (m : PlainInterpreter) (e : Evaluation) (name : List ℕ) (places : List (Option ℕ)) (copy : Option PlainArray) (told : Result (Option PlainArray) Fail) → look m.workspace name ≡ meaning.Shared copy → ToldOfShare e places told
+    → IfOk told (IsReplacement (look m.workspace name) (subs_held m.workspace e places) (behind_subs m.workspace e places))
+share_is_used m e name places copy (Err why) seen is = tt
+share_is_used m e name places copy (Ok made) seen is =
     let all : List PlainArray = stack_values m.workspace e in
     let many : length e.values.items ≡ length all = many_held m.workspace e in
-    let more : count_by is_some places < length all =
-    some_by_count (count_by is_some places) (length all) (nat_lt (count_by is_some places) (length all)) refl (is ∙ ap (λ (n : ℕ). if nat_lt (count_by is_some places) n then None else Some Value) many) in
+    let more = some_by_count (count_by is_some places) (length all) made (nat_lt (count_by is_some places) (length all)) refl (is ∙ ap (λ (n : ℕ). if nat_lt (count_by is_some places) n then Ok no_array else Err (fail.Report Value)) many) in
     let left : length (popped places all).values ≡ length all - count_by is_some places = popped_length places all in
-    shared_there (look m.workspace name) copy (subs_held m.workspace e places) (behind_subs m.workspace e places) seen (omega (arith, more, left))
+    let some : count_by is_some places < length all = more.1 in
+    let there : MayBeReplaced (look m.workspace name) (subs_held m.workspace e places) (behind_subs m.workspace e places) =
+    subst (λ (x : Meaning). MayBeReplaced x (subs_held m.workspace e places) (behind_subs m.workspace e places)) (sym seen)
+    (shared_there copy (subs_held m.workspace e places) (behind_subs m.workspace e places) (omega (arith, some, left))) in
+    subst (IsReplacement (look m.workspace name) (subs_held m.workspace e places) (behind_subs m.workspace e places)) (sym more.0) (copy, seen, there)
 
-step_of_value : (name : List ℕ) (subs : List (Option PlainArray)) (values : List PlainArray) (old : PlainArray) (why : Report) (s : State) → look s.workspace name ≡ meaning.Value old → Some why ≡ replacing_report old subs values → items_step name subs values s ≡ refuses why s
-step_of_value name subs [] old why s seen is = let value : why ≡ Value = cc in ap (λ (r : Report). refuses r s) (sym value)
+pub share_waits_not : (told : Result (Option PlainArray) Fail) (b : Bool) (fact : Type 0) → told ≡ (if b then Ok no_array else Err (fail.Report Value)) → OnWantOfMemory told fact
+share_waits_not told true fact is = subst (λ (r : Result (Option PlainArray) Fail). OnWantOfMemory r fact) (sym is) tt
+share_waits_not told false fact is = subst (λ (r : Result (Option PlainArray) Fail). OnWantOfMemory r fact) (sym is) tt
+
+step_of_value : (name : List ℕ) (subs : List (Option PlainArray)) (values : List PlainArray) (old : PlainArray) (why : Report) (s : State) → look s.workspace name ≡ meaning.Value old → replaced_by old subs values ≡ Err why → items_step name subs values s ≡ refuses why s
+step_of_value name subs [] old why s seen is = let same : Value ≡ why = cc in ap (λ (r : Report). refuses r s) same
 step_of_value name subs (right ∷ values) old why s seen is =
     ap (λ (x : Meaning). leaving_values values (items_where x name subs right s)) seen
-    ∙ ap (λ (r : Option Report). leaving_values values (and_then (and_then (outcome_of (unless r (overlaid_array old subs right)) s) (λ new t. assignment name new t)) (λ _ t. gives (Some right) t))) (sym is)
+    ∙ ap (λ (a : ArrayResult). leaving_values values (and_then (and_then (outcome_of a s) (λ new t. assignment name new t)) (λ _ t. gives (Some right) t))) is
 
 -- something is wrong with items of a value, and the line ends
-items_of_value : (m : PlainInterpreter) (e : Evaluation) (name : List ℕ) (places : List (Option ℕ)) (old : PlainArray) (why : Report) → look m.workspace name ≡ meaning.Value old → Some why ≡ replacing_report old (subs_held m.workspace e places) (behind_subs m.workspace e places)
-    → Comes m (part_takes m e (λ values. items_step name (popped places values).subs (popped places values).values)) 0 m (Err (fail.Report why))
-items_of_value m e name places old why seen is =
-    at_once m (part_takes m e (λ values. items_step name (popped places values).subs (popped places values).values)) (λ s. refuses why s) (λ asked count taken further.
+pub value_ends : (m : PlainInterpreter) (e : Evaluation) (name : List ℕ) (places : List (Option ℕ)) (old : PlainArray) (why : Fail) → look m.workspace name ≡ meaning.Value old
+    → Answers (Err why) (replaced_by old (subs_held m.workspace e places) (behind_subs m.workspace e places))
+    → Comes m (part_takes m e (λ values. items_step name (popped places values).subs (popped places values).values)) 0 m (Err why)
+value_ends m e name places old (fail.Report report) seen is =
+    at_once m (part_takes m e (λ values. items_step name (popped places values).subs (popped places values).values)) (λ s. refuses report s) (λ asked count taken further.
     ap (λ (o : Outcome Values). and_then o (λ values t. onward (record (evaluation_of m.workspace e) { values = values }) m.stack t))
-    (step_of_value name (subs_held m.workspace e places) (behind_subs m.workspace e places) old why (state_at m asked count taken further) seen is))
+    (step_of_value name (subs_held m.workspace e places) (behind_subs m.workspace e places) old report (state_at m asked count taken further) seen is))
+value_ends m e name places old fail.WantOfMemory seen is = tt
 
--- the same of what is told, if anything is
-pub told_of_value : (m : PlainInterpreter) (e : Evaluation) (name : List ℕ) (places : List (Option ℕ)) (old : PlainArray) (told : Option Report) → look m.workspace name ≡ meaning.Value old → told ≡ replacing_report old (subs_held m.workspace e places) (behind_subs m.workspace e places)
-    → IfSome told (λ why. Comes m (part_takes m e (λ values. items_step name (popped places values).subs (popped places values).values)) 0 m (Err (fail.Report why)))
-told_of_value m e name places old None seen is = tt
-told_of_value m e name places old (Some why) seen is = items_of_value m e name places old why seen is
+-- where memory runs out over them nothing is wrong
+may_be_put : (old : PlainArray) (subs : List (Option PlainArray)) (values : List PlainArray) → IsOk (replaced_by old subs values) → MayBeReplaced (meaning.Value old) subs values
+may_be_put old subs [] there = absurd (let none : is_ok (replaced_by old subs []) ≡ true = there in cc)
+may_be_put old subs (right ∷ values) there = there
 
-may_be_put : (old : PlainArray) (subs : List (Option PlainArray)) (values : List PlainArray) → None ≡ replacing_report old subs values → MayBeReplaced (meaning.Value old) subs values
-may_be_put old subs [] none = absurd (let no_report : None ≡ Some Value = none in cc)
-may_be_put old subs (right ∷ values) none = unless_none (first_report (assign_faults old subs right)) (overlaid_array old subs right) (sym none)
-
--- or nothing is
-pub value_takes_items : (seen : Meaning) (old : PlainArray) (subs : List (Option PlainArray)) (values : List PlainArray) → seen ≡ meaning.Value old → None ≡ replacing_report old subs values → MayBeReplaced seen subs values
-value_takes_items seen old subs values is none = subst (λ (x : Meaning). MayBeReplaced x subs values) (sym is) (may_be_put old subs values none)
+pub value_waits : (seen : Meaning) (old : PlainArray) (subs : List (Option PlainArray)) (values : List PlainArray) (why : Fail) → seen ≡ meaning.Value old → OnWantOfMemory {T = PlainArray} (Err why) (IsOk (replaced_by old subs values))
+    → OnWantOfMemory {T = Option PlainArray} (Err why) (MayBeReplaced seen subs values)
+value_waits seen old subs values (fail.Report report) is there = tt
+value_waits seen old subs values fail.WantOfMemory is there = subst (λ (x : Meaning). MayBeReplaced x subs values) (sym is) (may_be_put old subs values there)

@@ -1,4 +1,4 @@
-ghost use Rattle.std.specs.Prelude.{◌≡◌, ◌≤◌, ◌∷◌, List, Some, None, Err, true, false, if◌then◌else◌, IfErr, IfOk, IfSome, IsOk, OnOk, count_by, is_some, length, nat_lt, unwrap_or};
+ghost use Rattle.std.specs.Prelude.{◌≡◌, ◌≤◌, ◌∷◌, List, Some, None, Ok, Err, true, false, if◌then◌else◌, IfErr, IfOk, IfSome, IsOk, OnOk, count_by, is_some, length, nat_lt, unwrap_or};
 ghost use Rattle.std.specs.Option.{option_copied};
 ghost use Rattle.apl_workspace.specs.Limits.{most_weight};
 ghost use Rattle.apl_workspace.specs.Meaning.{is_shared_meaning, shared_copy};
@@ -7,6 +7,7 @@ ghost use Rattle.apl_workspace.specs.declared.meaning.Meaning.TheVariants as mea
 ghost use Rattle.apl_arrays.specs.Array.{PlainArray};
 ghost use Rattle.apl_arrays.specs.declared.report.Fail.TheVariants as fail;
 ghost use Rattle.apl_arrays.specs.declared.report.Report.TheVariants as report;
+ghost use Rattle.apl_items.specs.Answers.{Answers};
 ghost use Rattle.apl_items.specs.Places.{OnWantOfMemory};
 ghost use Rattle.apl_selection.specs.Assignment.{assign_of};
 ghost use Rattle.apl_meaning.specs.Nodes.{assign_step, items_step, popped};
@@ -16,14 +17,14 @@ ghost use Rattle.apl_statements.specs.Moves.{Comes, part_gives, part_takes};
 ghost use Rattle.apl_statements.specs.Sound.{IsCaller, IsEvaluation, IsFlow};
 ghost use Rattle.apl_statements.specs.Holding.{parts_of, stack_value_given, stack_values};
 ghost use Rattle.apl_statements.specs.Work.{StaysWithin, machine_work, parts_left};
-ghost use Rattle.apl_subscripts.specs.Held.{MayBeReplaced, behind_subs, subs_held};
+ghost use Rattle.apl_subscripts.specs.Held.{IsReplacement, MayBeReplaced, behind_subs, places_at, replaced_by, subs_held};
 ghost use Rattle.apl_answers.specs.WentOn.{went_on};
 
 use crate::changing::{assign_value, not_assigned};
 use apl_arrays::{Array, Fail, Name, Report, WantOfMemory};
-use apl_selection::{Subs, index_assign};
+use apl_selection::Subs;
 use apl_statements::{Evaluation, Flow, Interpreter};
-use apl_subscripts::{given_count, replacing_report};
+use apl_subscripts::{given_count, items_assigned, items_replaced, let_go_of_subs, places_at};
 use apl_values::{ActPurpose, StackValue, array_of};
 use apl_workspace::Seen;
 use line_trees::Places;
@@ -142,98 +143,135 @@ pub fn put(
     interpreter.give(e, given(name, gives))
 }
 
-/// Items of a name are replaced: its value with these items replaced is assigned to it. A shared name is used, and
-/// then set. VALUE ERROR for a name that stands for nothing and where there is no right side, SYNTAX ERROR for a label or a
-/// function, and what `index_assign` reports on the name's value, each also where there is no memory.
+/// Items of a name are replaced, by the subscripts of a part: its value with these items replaced is assigned to it. A shared
+/// name is used, and then set. VALUE ERROR for a name that stands for nothing and where there is no right side, SYNTAX ERROR for
+/// a label or a function, and what `index_assign` reports on the name's value, each also where there is no memory.
 pub fn assign_items(
     interpreter: &mut Interpreter,
     e: Evaluation,
     name: Name,
-    places: &Places,
+    at: usize,
 ) -> Result<Flow, Fail>
     requires sound { IsCaller interpreter.old.workspace e }
-    ensures comes { Comes interpreter.old (part_takes interpreter.old e (λ values. items_step name (popped places.now.items values).subs (popped places.now.items values).values)) 0 interpreter.new result }
-    ensures memory { OnWantOfMemory result (MayBeReplaced (look interpreter.old.workspace name) (subs_held interpreter.old.workspace e places.now.items) (behind_subs interpreter.old.workspace e places.now.items)) }
+    ensures comes { Comes interpreter.old (part_takes interpreter.old e (λ values. items_step name (popped (places_at e at) values).subs (popped (places_at e at) values).values)) 0 interpreter.new result }
+    ensures memory { OnWantOfMemory result (MayBeReplaced (look interpreter.old.workspace name) (subs_held interpreter.old.workspace e (places_at e at)) (behind_subs interpreter.old.workspace e (places_at e at))) }
     ensures sound { IfOk result (IsFlow interpreter.new) }
     ensures within { IfOk result (StaysWithin interpreter.old e interpreter.new) }
 {
-    match no_items(interpreter, &e, &name, places) {
-        Some(report) => {
-            drop(e);
-            Err(Fail::Report(report))
-        }
-        None => assign_there(interpreter, e, name, places),
+    match replacement(interpreter, &e, &name, at)? {
+        None => use_first(interpreter, e, name, at),
+        Some(new) => put_replaced(interpreter, e, name, at, new),
     }
 }
 
-// The report on an assignment to items of a name, if there is one: the name stands for nothing, or is a label or a function,
-// there is no right side, or something is wrong with the items of its value. It takes no memory.
-fn no_items(
+// What takes the place of the value of a name whose items are replaced; none where it is shared, and used first. VALUE ERROR for
+// a name that stands for nothing and where there is no right side, SYNTAX ERROR for a label or a function, and what `index_assign`
+// reports.
+fn replacement(
     interpreter: &Interpreter,
     e: &Evaluation,
     name: &Name,
-    places: &Places,
-) -> Option<Report>
+    at: usize,
+) -> Result<Option<Array>, Fail>
     requires { IsEvaluation interpreter.now.workspace e.now }
-    ensures some { IfSome result (λ report. Comes interpreter.now (part_takes interpreter.now e.now (λ values. items_step name.now (popped places.now.items values).subs (popped places.now.items values).values)) 0 interpreter.now (Err (fail.Report report))) }
-    ensures none { result ≡ None → MayBeReplaced (look interpreter.now.workspace name.now) (subs_held interpreter.now.workspace e.now places.now.items) (behind_subs interpreter.now.workspace e.now places.now.items) }
+    ensures wrong { IfErr result (λ why. Comes interpreter.now (part_takes interpreter.now e.now (λ values. items_step name.now (popped (places_at e.now at) values).subs (popped (places_at e.now at) values).values)) 0 interpreter.now (Err why)) }
+    ensures right { IfOk result (IsReplacement (look interpreter.now.workspace name.now) (subs_held interpreter.now.workspace e.now (places_at e.now at)) (behind_subs interpreter.now.workspace e.now (places_at e.now at))) }
+    ensures memory { OnWantOfMemory result (MayBeReplaced (look interpreter.now.workspace name.now) (subs_held interpreter.now.workspace e.now (places_at e.now at)) (behind_subs interpreter.now.workspace e.now (places_at e.now at))) }
 {
     match interpreter.workspace.look(name) {
-        Seen::Nothing => Some(Report::Value),
-        Seen::Value(old) => replacing_report(old, e, places.as_slice(), &interpreter.workspace),
-        Seen::Function(_) => Some(not_replaced(e, places)),
-        Seen::Label(_) => Some(not_replaced(e, places)),
-        Seen::Shared(_) => no_right_side(e, places),
+        Seen::Nothing => Err(Fail::Report(Report::Value)),
+        Seen::Value(old) => {
+            let new = value_replacement(interpreter, old, e, at)?;
+            Ok(Some(new))
+        }
+        Seen::Function(_) => Err(Fail::Report(not_replaced(e, at))),
+        Seen::Label(_) => Err(Fail::Report(not_replaced(e, at))),
+        Seen::Shared(_) => none_yet(e, at),
     }
 }
 
-// VALUE ERROR where no value stands behind the subscripts.
-fn no_right_side(e: &Evaluation, places: &Places) -> Option<Report>
-    ensures { result ≡ (if nat_lt (count_by is_some places.now.items) (length e.now.values.items) then None else Some report.Value) }
+// An array whose items are replaced by what a statement holds. Reports and memory are those of `items_replaced`.
+fn value_replacement(
+    interpreter: &Interpreter,
+    old: &Array,
+    e: &Evaluation,
+    at: usize,
+) -> Result<Array, Fail>
+    requires { IsEvaluation interpreter.now.workspace e.now }
+    ensures answer { Answers result (replaced_by old.now (subs_held interpreter.now.workspace e.now (places_at e.now at)) (behind_subs interpreter.now.workspace e.now (places_at e.now at))) }
+    ensures memory { OnWantOfMemory result (IsOk (replaced_by old.now (subs_held interpreter.now.workspace e.now (places_at e.now at)) (behind_subs interpreter.now.workspace e.now (places_at e.now at)))) }
 {
-    if given_count(places.as_slice()) < e.values.len() {
-        None
+    items_replaced(
+        interpreter.alloc,
+        old,
+        e,
+        places_at(e, at),
+        &interpreter.workspace,
+    )
+}
+
+// No array where a value stands behind the subscripts, and else VALUE ERROR.
+fn none_yet(e: &Evaluation, at: usize) -> Result<Option<Array>, Fail>
+    ensures { result ≡ (if nat_lt (count_by is_some (places_at e.now at)) (length e.now.values.items) then Ok None else Err (fail.Report report.Value)) }
+{
+    if given_count(places_at(e, at)) < e.values.len() {
+        Ok(None)
     } else {
-        Some(Report::Value)
+        Err(Fail::Report(Report::Value))
     }
 }
 
 // The report on a label or a function whose items are to be replaced: SYNTAX ERROR, or VALUE ERROR where there is no right side.
-fn not_replaced(e: &Evaluation, places: &Places) -> Report
-    ensures { result ≡ (if nat_lt (count_by is_some places.now.items) (length e.now.values.items) then report.Syntax else report.Value) }
+fn not_replaced(e: &Evaluation, at: usize) -> Report
+    ensures { result ≡ (if nat_lt (count_by is_some (places_at e.now at)) (length e.now.values.items) then report.Syntax else report.Value) }
 {
-    if given_count(places.as_slice()) < e.values.len() {
+    if given_count(places_at(e, at)) < e.values.len() {
         Report::Syntax
     } else {
         Report::Value
     }
 }
 
-// The same, where the subscripts and the right side are taken first.
-fn assign_there(
+// A name gets an array in the place of its value, and the right side is given.
+fn put_replaced(
     interpreter: &mut Interpreter,
     e: Evaluation,
     name: Name,
-    places: &Places,
+    at: usize,
+    new: Array,
 ) -> Result<Flow, Fail>
     requires sound { IsCaller interpreter.old.workspace e }
-    ensures comes { Comes interpreter.old (part_takes interpreter.old e (λ values. items_step name (popped places.now.items values).subs (popped places.now.items values).values)) 0 interpreter.new result }
+    requires right { IsReplacement (look interpreter.old.workspace name) (subs_held interpreter.old.workspace e (places_at e at)) (behind_subs interpreter.old.workspace e (places_at e at)) (Some new) }
+    ensures comes { Comes interpreter.old (part_takes interpreter.old e (λ values. items_step name (popped (places_at e at) values).subs (popped (places_at e at) values).values)) 0 interpreter.new result }
     ensures sound { IfOk result (IsFlow interpreter.new) }
     ensures within { IfOk result (StaysWithin interpreter.old e interpreter.new) }
 {
     let mut e = e;
+    let_go_of_subs(&mut e, at);
+    let held = e.take()?;
+    let right = interpreter.owned(&e, held)?;
+    put(interpreter, e, name, new, Some(right))
+}
+
+// A shared name is used, and its items are replaced behind that by subscripts and a right side that are kept.
+fn use_first(
+    interpreter: &mut Interpreter,
+    e: Evaluation,
+    name: Name,
+    at: usize,
+) -> Result<Flow, Fail>
+    requires sound { IsCaller interpreter.old.workspace e }
+    requires right { IsReplacement (look interpreter.old.workspace name) (subs_held interpreter.old.workspace e (places_at e at)) (behind_subs interpreter.old.workspace e (places_at e at)) None }
+    ensures comes { Comes interpreter.old (part_takes interpreter.old e (λ values. items_step name (popped (places_at e at) values).subs (popped (places_at e at) values).values)) 0 interpreter.new result }
+    ensures sound { IfOk result (IsFlow interpreter.new) }
+    ensures within { IfOk result (StaysWithin interpreter.old e interpreter.new) }
+{
+    let mut e = e;
+    let places = Places::of(interpreter.alloc, places_at(&e, at))?;
     let subs = e.take_subs(interpreter.alloc, places.as_slice(), &interpreter.workspace)?;
     let held = e.take()?;
     let right = interpreter.owned(&e, held)?;
-    match interpreter.workspace.look(&name) {
-        Seen::Nothing => Err(Fail::Report(Report::Value)),
-        Seen::Value(old) => {
-            let new = index_assign(interpreter.alloc, old, &subs, &right)?;
-            put(interpreter, e, name, new, Some(right))
-        }
-        Seen::Function(_) | Seen::Label(_) => Err(Fail::Report(Report::Syntax)),
-        Seen::Shared(_) => interpreter.open(ActPurpose::Replaces { name, subs, right }, e),
-    }
+    interpreter.open(ActPurpose::Replaces { name, subs, right }, e)
 }
 
 /// Items of a shared name are replaced behind its use, and the name is set. A report of the replacement comes also where there
@@ -255,7 +293,7 @@ pub fn replace_items(
     match own_copy(interpreter, &name) {
         None => Err(Fail::Report(Report::Value)),
         Some(old) => {
-            let new = index_assign(interpreter.alloc, old, &subs, &right)?;
+            let new = items_assigned(interpreter.alloc, old, &subs, &right)?;
             put(interpreter, e, name, new, Some(right))
         }
     }

@@ -37,7 +37,8 @@ use Rattle.apl_statements.specs.Interpreter.{PlainInterpreter, here, state_at}
 use Rattle.apl_statements.specs.Moves.{Coming, Comes, flow_to_come, if_there, part_gives, part_takes}
 use Rattle.apl_statements.specs.Stack.{assignment_step, carried_on, onward}
 use Rattle.apl_statements.specs.Holding.{stack_values, parts_of}
-use Rattle.apl_machine.specs.Nexts.{IsNext}
+use Rattle.apl_subscripts.specs.Held.{places_in}
+use Rattle.apl_machine.specs.Nexts.{IsNext, given_places}
 use Rattle.apl_statements.proofs.Parts.{next_around_none, next_part, next_wants, part_leaves}
 use Rattle.apl_statements.proofs.Same.{SameAt, at_once}
 
@@ -142,6 +143,11 @@ assign_there target None right values s = refl
 assign_there target (Some places) right values s = refl
 
 -- an assignment
+-- the places of an assignment to items are those between its brackets
+pub given_is : (target : List ℕ) (subs : Option (Listed (Option ℕ))) (right : ℕ) (has : Bool) → has ≡ is_some subs → given_places has (places_in (Some (plain_node (coded.Assign target subs right)))) ≡ option_map (λ places. places.items) subs
+given_is target None right has is = ap (λ (b : Bool). given_places b []) is
+given_is target (Some places) right has is = ap (λ (b : Bool). given_places b places.items) is
+
 pub next_assign : (m : PlainInterpreter) (e : Evaluation) (target : List ℕ) (subs : Option (Listed (Option ℕ))) (right : ℕ) → IsNext e (plain_node (coded.Assign target subs right)) → e.is_wanting ≡ false
     → SameAt m (to_come m e) (part_takes m (passed e) (assignment_step target (option_map (λ places. places.items) subs)))
 next_assign m e target subs right next there asked count taken further =

@@ -37,6 +37,11 @@ pub record IsNextStackValue (m : PlainInterpreter) (e : Evaluation) (held : Stac
   pub is_held : IsStackValue m.workspace (parts_of e) held
   pub moves : Moves m (λ s. onward (evaluation_of m.workspace e) m.stack s) 0 m (part_gives m (record e { at = e.at + 1 }) (λ s. gives (Some (stack_value m.workspace (parts_of e) held)) s))
 
+-- the places of an assignment to items, and none where a name is assigned
+abbrev pub given_places : Bool → List (Option ℕ) → Option (List (Option ℕ))
+given_places false places = None
+given_places true places = Some places
+
 -- what a name stands for takes a value; where items of it are replaced at these places, they may be replaced by what a statement holds
 abbrev pub MayBeAssigned : Option (List (Option ℕ)) → PlainWorkspace → Evaluation → Meaning → Type 0
 MayBeAssigned None w e seen = is_assignable seen ≡ true

@@ -20,13 +20,13 @@ takes_memory_first (fun.Verb verb) = wants_memory_first verb
 takes_memory_first (fun.Defined name) = false
 takes_memory_first (fun.System name) = false
 
--- a part of a statement takes no memory before it is known whether it has a report; of an assignment, and of what has subscripts, this is not said
+-- a part of a statement takes no memory before it is known whether it has a report; of an assignment this is not said
 abbrev pub looks_first : PlainNode → Bool
 looks_first (node.constant items) = true
 looks_first (node.value name) = true
 looks_first (node.niladic name) = true
 looks_first (node.paren k) = true
-looks_first (node.indexed v places) = false
+looks_first (node.indexed v places) = true
 looks_first (node.apply f left right axis) = not (takes_memory_first f)
 looks_first (node.assign name right) = false
 looks_first (node.assign_at name places right) = false

@@ -2,9 +2,9 @@ ghost use Rattle.std.specs.Prelude.{◌≡◌, ◌+◌, ◌-◌, ◌<◌, ◌≤
 ghost use Rattle.apl_arrays.specs.Array.{scalar};
 ghost use Rattle.apl_arrays.specs.declared.report.Fail.TheVariants as fail;
 ghost use Rattle.apl_arrays.specs.declared.report.Report.TheVariants as report;
-ghost use Rattle.apl_items.specs.Answers.{first_report};
+ghost use Rattle.apl_items.specs.Answers.{Answers, first_report};
 ghost use Rattle.apl_items.specs.Places.{OnWantOfMemory};
-ghost use Rattle.apl_selection.specs.Indexing.{index_faults};
+ghost use Rattle.apl_selection.specs.Indexing.{index_faults, selection_of};
 ghost use Rattle.apl_workspace.specs.Workspace.{look};
 ghost use Rattle.apl_meaning.specs.Expressions.{valued};
 ghost use Rattle.line_trees.specs.Nodes.{PlainNode};
@@ -20,9 +20,9 @@ ghost use Rattle.apl_statements.specs.Holding.{parts_of, stack_values};
 ghost use Rattle.apl_statements.specs.Wants.{NoReportIsDue};
 ghost use Rattle.apl_statements.specs.Work.{Falls, StaysWithin, TakesAStep, machine_work};
 ghost use Rattle.apl_statements.specs.declared.flow.Flow.TheVariants as flow;
-ghost use Rattle.apl_subscripts.specs.Held.{subs_held};
+ghost use Rattle.apl_subscripts.specs.Held.{places_at, subs_held};
 ghost use Rattle.apl_answers.specs.WentOn.{went_on};
-ghost use Rattle.apl_machine.specs.Nexts.{HasPassed, IsHeldFor, IsNextStackValue, MayBeAssigned};
+ghost use Rattle.apl_machine.specs.Nexts.{HasPassed, IsHeldFor, IsNextStackValue, MayBeAssigned, given_places};
 ghost use Rattle.apl_machine.specs.Wants.{looks_first, no_lines};
 
 use crate::applying::perform;
@@ -31,13 +31,11 @@ use apl_answers::{assign, assign_items};
 use apl_arrays::{Array, Fail, Name, Report, WantOfMemory};
 use apl_calls::{call, end_statement, follow};
 use apl_operators::Steps;
-use apl_selection::index;
 use apl_statements::{Evaluation, Flow, Interpreter, Pause};
-use apl_subscripts::index_report;
+use apl_subscripts::{index_held, let_go_of_subs, places_at};
 use apl_values::{ActPurpose, Part, StackValue, array_of};
 use apl_workspace::{Args, Seen};
-use line_trees::{Node, Places};
-use std::alloc::Global;
+use line_trees::Node;
 use std::sync::ledger::Ledger;
 
 /// Goes on from a flow until the line is over, or an act is opened.
@@ -183,8 +181,8 @@ fn go_on<L: Ledger>(
     }
 }
 
-// A part takes the values that it needs, and gives one. A report comes also where there is no memory, but for that of ⍕, of an
-// assignment, and of what has subscripts.
+// A part takes the values that it needs, and gives one. A report comes also where there is no memory, but for that of ⍕ and of
+// an assignment.
 fn step<L: Ledger>(
     interpreter: &mut Interpreter,
     e: Evaluation,
@@ -214,10 +212,7 @@ fn step<L: Ledger>(
                 call(interpreter, e, name, no_arguments())
             }
             Node::Paren(_) => Ok(Flow::Evaluates(e)),
-            Node::Indexed { subs, .. } => {
-                let places = subs.copy(interpreter.alloc)?;
-                index_value(interpreter, e, &places)
-            }
+            Node::Indexed { .. } => index_value(interpreter, e, at),
             Node::Apply {
                 function,
                 left,
@@ -231,8 +226,8 @@ fn step<L: Ledger>(
             }
             Node::Assign { target, subs, .. } => {
                 let name = *target;
-                let places = copy_places(interpreter.alloc, subs)?;
-                assign_to(interpreter, e, name, places)
+                let has_subs = subs.is_some();
+                assign_to(interpreter, e, name, has_subs, at)
             }
         },
     }
@@ -244,17 +239,19 @@ fn assign_to(
     interpreter: &mut Interpreter,
     e: Evaluation,
     name: Name,
-    places: Option<Places>,
+    has_subs: bool,
+    at: usize,
 ) -> Result<Flow, Fail>
     requires sound { IsCaller interpreter.old.workspace e }
-    ensures comes { Comes interpreter.old (part_takes interpreter.old e (assignment_step name (option_map (λ places. places.items) places))) 0 interpreter.new result }
-    ensures memory { OnWantOfMemory result (MayBeAssigned (option_map (λ places. places.items) places) interpreter.old.workspace e (look interpreter.old.workspace name)) }
+    ensures comes { Comes interpreter.old (part_takes interpreter.old e (assignment_step name (given_places has_subs (places_at e at)))) 0 interpreter.new result }
+    ensures memory { OnWantOfMemory result (MayBeAssigned (given_places has_subs (places_at e at)) interpreter.old.workspace e (look interpreter.old.workspace name)) }
     ensures sound { IfOk result (IsFlow interpreter.new) }
     ensures within { IfOk result (StaysWithin interpreter.old e interpreter.new) }
 {
-    match places {
-        None => assign(interpreter, e, name),
-        Some(places) => assign_items(interpreter, e, name, &places),
+    if has_subs {
+        assign_items(interpreter, e, name, at)
+    } else {
+        assign(interpreter, e, name)
     }
 }
 
@@ -279,50 +276,41 @@ fn refer(interpreter: &Interpreter, e: Evaluation, name: Name) -> Result<Flow, F
     }
 }
 
-// An array is indexed by its subscripts. VALUE ERROR where there is none, and what `index` reports, come also where there is no
+// An array is indexed by the subscripts of a part. VALUE ERROR where there is none, and what `index` reports, come also where there is no
 // memory.
-fn index_value(interpreter: &Interpreter, e: Evaluation, places: &Places) -> Result<Flow, Fail>
+fn index_value(interpreter: &Interpreter, e: Evaluation, at: usize) -> Result<Flow, Fail>
     requires sound { IsCaller interpreter.now.workspace e }
-    ensures comes { Comes interpreter.now (part_takes interpreter.now e (indexed_step places.now.items)) 0 interpreter.now result }
-    ensures memory { OnWantOfMemory result (NoReportIsDue interpreter.now (indexed_step places.now.items (stack_values interpreter.now.workspace e))) }
+    ensures comes { Comes interpreter.now (part_takes interpreter.now e (indexed_step (places_at e at))) 0 interpreter.now result }
+    ensures memory { OnWantOfMemory result (NoReportIsDue interpreter.now (indexed_step (places_at e at) (stack_values interpreter.now.workspace e))) }
     ensures sound { IfOk result (IsFlow interpreter.now) }
     ensures within { IfOk result (StaysWithin interpreter.now e interpreter.now) }
 {
     let mut e = e;
     let held = e.take()?;
-    match report_on(interpreter, &e, &held, places) {
-        Some(report) => {
-            drop(held);
-            drop(e);
-            Err(Fail::Report(report))
-        }
-        None => {
-            let subs = e.take_subs(interpreter.alloc, places.as_slice(), &interpreter.workspace)?;
-            let array = index(
-                interpreter.alloc,
-                array_of(&held, e.parts(), &interpreter.workspace),
-                &subs,
-            )?;
-            interpreter.give(e, StackValue::Made(array))
-        }
-    }
+    let made = index_by(interpreter, &e, &held, at);
+    drop(held);
+    let_go_of_subs(&mut e, at);
+    let array = made?;
+    interpreter.give(e, StackValue::Made(array))
 }
 
-// The report on a value that is indexed by the subscripts that a statement holds, if there is one. It takes no memory.
-fn report_on(
+// The items of a value by the subscripts that a statement holds. Reports and memory are those of `index`.
+fn index_by(
     interpreter: &Interpreter,
     e: &Evaluation,
     held: &StackValue,
-    places: &Places,
-) -> Option<Report>
+    at: usize,
+) -> Result<Array, Fail>
     requires sound { IsEvaluation interpreter.now.workspace e.now }
     requires held { IsStackValue interpreter.now.workspace (parts_of e.now) held.now }
-    ensures { result ≡ first_report (index_faults (stack_value interpreter.now.workspace (parts_of e.now) held.now) (subs_held interpreter.now.workspace e.now places.now.items)) }
+    ensures answer { Answers result (selection_of (stack_value interpreter.now.workspace (parts_of e.now) held.now) (subs_held interpreter.now.workspace e.now (places_at e.now at))) }
+    ensures memory { OnWantOfMemory result (first_report (index_faults (stack_value interpreter.now.workspace (parts_of e.now) held.now) (subs_held interpreter.now.workspace e.now (places_at e.now at))) ≡ None) }
 {
-    index_report(
+    index_held(
+        interpreter.alloc,
         array_of(held, e.parts(), &interpreter.workspace),
         e,
-        places.as_slice(),
+        places_at(e, at),
         &interpreter.workspace,
     )
 }
@@ -334,16 +322,6 @@ fn no_arguments() -> Args
     Args {
         left: None,
         right: None,
-    }
-}
-
-// Places that may be there, once more.
-fn copy_places(alloc: Global, places: &Option<Places>) -> Result<Option<Places>, WantOfMemory>
-    ensures { IfOk result (λ copy. option_map (λ places. places.items) copy ≡ option_map (λ places. places.items) places.now) }
-{
-    match places {
-        None => Ok(None),
-        Some(places) => Ok(Some(places.copy(alloc)?)),
     }
 }
 

@@ -1,9 +1,10 @@
 -- Subscripts, and what they select.
-use Rattle.std.proofs.Common.{◌≡◌, ℕ, ◌+◌, ◌-◌, ◌*◌, ◌<◌, ◌||◌, Bool, true, false, List, [], ◌∷◌, ◌++◌, Option, Some, None, length, map, slice_index, get_or, unsigned_abs, refl, sym, ap, ◌∙◌, append-nil, arith}
+use Rattle.std.proofs.Common.{◌≡◌, ℕ, ◌+◌, ◌-◌, ◌*◌, ◌<◌, ◌||◌, Bool, true, false, List, [], ◌∷◌, ◌++◌, Option, Some, None, length, map, slice_index, get_or, take, unsigned_abs, refl, sym, ap, ◌∙◌, append-nil, arith, Bor}
+use Rattle.std.specs.Prelude.{IfSome, option_copied}
 use Rattle.std.specs.List.{flat_map, list_any}
 use Rattle.std.proofs.lemmas.Grind.{flat_map-append}
-use Rattle.std.proofs.lemmas.List.{get_or_default, length-map}
-use Rattle.std.proofs.lemmas.List.Folds.{list_any_at}
+use Rattle.std.proofs.lemmas.List.{get_or-map, length-map, take_more}
+use Rattle.std.proofs.lemmas.List.Folds.{list_any-append, list_any_at}
 use Rattle.std.proofs.lemmas.List.FromFn.{length-range_with_len, map-range_with_len_more}
 use Rattle.apl_arrays.specs.Array.{PlainArray, PlainItems, IsArray, numbers, chars, element_count, is_chars, item_count, numbers_in}
 use Rattle.apl_items.specs.Places.{places}
@@ -13,8 +14,28 @@ use Rattle.apl_selection.specs.Subscripts.{axes_by, is_of_chars, named_by, named
 
 -- ---- a subscript that was read
 
-pub sub_read : (subs : List (Option PlainArray)) (axis : ℕ) (sub : Option PlainArray) → axis < length subs → sub ≡ get_or subs axis sub → sub ≡ sub_on subs axis
-sub_read subs axis sub inside is = is ∙ get_or_default subs axis sub None inside
+pub sub_read : (subs : List (Option (Bor PlainArray))) (axis : ℕ) (sub : Option (Bor PlainArray)) → axis < length subs → sub ≡ get_or subs axis sub → option_copied sub ≡ sub_on (map option_copied subs) axis
+sub_read subs axis sub inside is = ap option_copied is ∙ sym (get_or-map option_copied subs axis sub None inside)
+
+-- as many as are lent
+pub as_many_lent : (subs : List (Option (Bor PlainArray))) → length (map option_copied subs) ≡ length subs
+as_many_lent subs = length-map subs option_copied
+
+-- a lone subscript, where it is not omitted
+pub lone_lent : (subs : List (Option (Bor PlainArray))) (sub : Option (Bor PlainArray)) → length subs ≡ 1 → sub ≡ get_or subs 0 sub → IfSome sub (λ array. map option_copied subs ≡ Some array.now ∷ [])
+lone_lent [] sub one is = absurd (omega (arith, one))
+lone_lent (first ∷ []) None one is = tt
+lone_lent (first ∷ []) (Some array) one is = ap (λ (o : Option (Bor PlainArray)). option_copied o ∷ []) (sym is)
+lone_lent (first ∷ second ∷ rest) sub one is = absurd (omega (arith, one))
+
+-- of numbers so far, and one more
+pub numbers_more : (subs : List (Option PlainArray)) (axis : ℕ) (sub : Option PlainArray) (here : Bool) → axis < length subs → list_any is_of_chars (take axis subs) ≡ false → sub ≡ sub_on subs axis → here ≡ is_of_chars sub → here ≡ false
+    → list_any is_of_chars (take (axis + 1) subs) ≡ false
+numbers_more subs axis sub here lt before same is not_here =
+    ap (list_any is_of_chars) (take_more subs axis None lt)
+    ∙ list_any-append is_of_chars (take axis subs) (sub_on subs axis ∷ [])
+    ∙ ap (λ (b : Bool). b || (is_of_chars (sub_on subs axis) || false)) before
+    ∙ ap (λ (b : Bool). b || false) (ap is_of_chars (sym same) ∙ sym is ∙ not_here)
 
 pub all_named : (axis : ℕ) → length (named_by axis None) ≡ axis
 all_named axis = length-range_with_len 0 axis

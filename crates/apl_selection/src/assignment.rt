@@ -1,4 +1,4 @@
-ghost use Rattle.std.specs.Prelude.{◌≡◌, ◌↔◌, ◌+◌, ◌-◌, ◌*◌, ◌<◌, ◌≤◌, ◌^◌, ◌++◌, ◌==◌, ◌||◌, ◌∷◌, [], ℕ, Some, None, false, IfOk, IsTrue, length, map, pos, slice_index, slice_index_or, unsigned_abs, vec_len, vec_capacity};
+ghost use Rattle.std.specs.Prelude.{◌≡◌, ◌↔◌, ◌+◌, ◌-◌, ◌*◌, ◌<◌, ◌≤◌, ◌^◌, ◌++◌, ◌==◌, ◌||◌, ◌∷◌, [], ℕ, Some, None, false, IfOk, IsTrue, length, map, option_copied, pos, slice_index, slice_index_or, unsigned_abs, vec_len, vec_capacity};
 ghost use Rattle.std.specs.List.{flat_map, list_any};
 ghost use Rattle.apl_arrays.specs.Array.{FitsLimits, IsArray, element_count, item_count, numbers_in, plain_items, seen_items};
 ghost use Rattle.apl_items.specs.Answers.{Answers, first_report};
@@ -11,7 +11,7 @@ ghost use Rattle.apl_selection.specs.Subscripts.{is_miscounted, is_outside, name
 use crate::listing::item_in;
 use crate::strides::{scaled, stride_in, strides_of};
 use crate::subscripts::{
-    Subs, are_of_chars, is_miscounted, named_counts, place_from_0, point_outside, selection_shape,
+    are_of_chars, is_miscounted, named_counts, place_from_0, point_outside, selection_shape,
 };
 use apl_arrays::{Array, Fail, Items, ItemsRef, List, NumberList, Report, WantOfMemory};
 use apl_items::{is_single, room_for};
@@ -23,11 +23,15 @@ use std::alloc::Global;
 /// the selection, else DOMAIN where a subscript is of characters or the kinds differ, else INDEX where a number of a
 /// subscript is not from 1 to the length of its axis. Where there is no report it takes memory for strides, for the result,
 /// and for a place for each item.
-pub fn index_assign(alloc: Global, a: &Array, subs: &Subs, v: &Array) -> Result<Array, Fail>
-    ensures answer { Answers result (assign_of a.now subs.now.items v.now) }
-    ensures memory { OnWantOfMemory result (first_report (assign_faults a.now subs.now.items v.now) ≡ None) }
+pub fn index_assign(
+    alloc: Global,
+    a: &Array,
+    subs: &[Option<&Array>],
+    v: &Array,
+) -> Result<Array, Fail>
+    ensures answer { Answers result (assign_of a.now (map option_copied subs.now) v.now) }
+    ensures memory { OnWantOfMemory result (first_report (assign_faults a.now (map option_copied subs.now) v.now) ≡ None) }
 {
-    let subs = subs.as_slice();
     if is_miscounted(a.shape(), subs) {
         return Err(Fail::Report(Report::Rank));
     }
@@ -39,10 +43,10 @@ pub fn index_assign(alloc: Global, a: &Array, subs: &Subs, v: &Array) -> Result<
 }
 
 /// The report on an assignment to a selection of this shape, if there is one.
-fn assign_report(a: &Array, subs: &[Option<Array>], selection: &[u32], v: &Array) -> Option<Report>
-    requires counted { is_miscounted a.now.shape subs.now ≡ false }
-    requires shape { selection.now ≡ selection_shape a.now.shape subs.now }
-    ensures { result ≡ first_report (assign_faults a.now subs.now v.now) }
+fn assign_report(a: &Array, subs: &[Option<&Array>], selection: &[u32], v: &Array) -> Option<Report>
+    requires counted { is_miscounted a.now.shape (map option_copied subs.now) ≡ false }
+    requires shape { selection.now ≡ selection_shape a.now.shape (map option_copied subs.now) }
+    ensures { result ≡ first_report (assign_faults a.now (map option_copied subs.now) v.now) }
 {
     if !is_single(v) && v.shape().len() != selection.len() {
         Some(Report::Rank)
@@ -61,11 +65,11 @@ fn assign_report(a: &Array, subs: &[Option<Array>], selection: &[u32], v: &Array
 fn overlaid_array(
     alloc: Global,
     a: &Array,
-    subs: &[Option<Array>],
+    subs: &[Option<&Array>],
     v: &Array,
 ) -> Result<Array, WantOfMemory>
-    requires { None ≡ first_report (assign_faults a.now subs.now v.now) }
-    ensures { IfOk result (λ array. array ≡ overlaid_array a.now subs.now v.now) }
+    requires { None ≡ first_report (assign_faults a.now (map option_copied subs.now) v.now) }
+    ensures { IfOk result (λ array. array ≡ overlaid_array a.now (map option_copied subs.now) v.now) }
 {
     let old = a.items();
     let new = v.items();
@@ -89,13 +93,13 @@ fn is_idle(old: ItemsRef<'_>, new: ItemsRef<'_>) -> bool
 fn strides_for(
     alloc: Global,
     a: &Array,
-    subs: &[Option<Array>],
+    subs: &[Option<&Array>],
     v: &Array,
 ) -> Result<Vec<u16>, WantOfMemory>
-    requires fine { None ≡ first_report (assign_faults a.now subs.now v.now) }
+    requires fine { None ≡ first_report (assign_faults a.now (map option_copied subs.now) v.now) }
     requires array { IsArray v.now }
     requires some { 0 < item_count v.now.items }
-    ensures { IfOk result (λ strides. AreStridesFor a.now subs.now v.now strides.items) }
+    ensures { IfOk result (λ strides. AreStridesFor a.now (map option_copied subs.now) v.now strides.items) }
 {
     if is_single(v) {
         return Ok(vec![in alloc; 0; a.shape().len()]?);
@@ -109,16 +113,16 @@ fn strides_for(
 fn naming(
     alloc: Global,
     shape: &[u32],
-    subs: &[Option<Array>],
+    subs: &[Option<&Array>],
     strides: &[u16],
 ) -> Result<Vec<Option<u32>>, WantOfMemory>
     requires ranked { 0 < length shape.now }
     requires fits { FitsLimits shape.now }
     requires elements { 0 < element_count shape.now }
     requires counted { length subs.now ≡ length shape.now }
-    requires inside { point_outside shape.now subs.now ≡ false }
-    requires small { PlacesAreSmall shape.now (naming_by shape.now subs.now strides.now) }
-    ensures { IfOk result (λ sources. sources.items ≡ map (source_by_axes shape.now (naming_by shape.now subs.now strides.now)) (places (element_count shape.now))) }
+    requires inside { point_outside shape.now (map option_copied subs.now) ≡ false }
+    requires small { PlacesAreSmall shape.now (naming_by shape.now (map option_copied subs.now) strides.now) }
+    ensures { IfOk result (λ sources. sources.items ≡ map (source_by_axes shape.now (naming_by shape.now (map option_copied subs.now) strides.now)) (places (element_count shape.now))) }
 {
     let mut axis = shape.len() - 1;
     let mut after = last_places_on(alloc, shape, subs, strides, axis)?;
@@ -134,29 +138,29 @@ fn naming(
 fn last_places_on(
     alloc: Global,
     shape: &[u32],
-    subs: &[Option<Array>],
+    subs: &[Option<&Array>],
     strides: &[u16],
     axis: usize,
 ) -> Result<Vec<Option<u32>>, WantOfMemory>
     requires fits { FitsLimits shape.now }
     requires axis { axis < length shape.now }
     requires counted { length subs.now ≡ length shape.now }
-    requires inside { point_outside shape.now subs.now ≡ false }
-    ensures { IfOk result (λ table. table.items ≡ map (naming_by shape.now subs.now strides.now axis) (places (slice_index shape.now axis))) }
+    requires inside { point_outside shape.now (map option_copied subs.now) ≡ false }
+    ensures { IfOk result (λ table. table.items ≡ map (naming_by shape.now (map option_copied subs.now) strides.now axis) (places (slice_index shape.now axis))) }
 {
-    last_places(alloc, shape[axis], &subs[axis], stride_in(strides, axis))
+    last_places(alloc, shape[axis], subs[axis], stride_in(strides, axis))
 }
 
 /// The last of its places at which a subscript names each place along its axis, by a stride.
 fn last_places(
     alloc: Global,
     axis: u32,
-    sub: &Option<Array>,
+    sub: Option<&Array>,
     stride: u16,
 ) -> Result<Vec<Option<u32>>, WantOfMemory>
     requires long { axis ≤ 16384 }
-    requires inside { points_outside axis sub.now ≡ false }
-    ensures { IfOk result (λ table. table.items ≡ map (λ along. scaled_place stride (last_place along (named_by axis sub.now))) (places axis)) }
+    requires inside { points_outside axis (option_copied sub) ≡ false }
+    ensures { IfOk result (λ table. table.items ≡ map (λ along. scaled_place stride (last_place along (named_by axis (option_copied sub.entry)))) (places axis)) }
 {
     match sub {
         None => all_places(alloc, axis, stride),

@@ -1,4 +1,4 @@
-ghost use Rattle.std.specs.Prelude.{◌≡◌, ◌-◌, ◌<◌, [], ◌∷◌, None, Some, false, IfOk, IfSome, map, slice_get, unsigned_abs};
+ghost use Rattle.std.specs.Prelude.{◌≡◌, ◌-◌, ◌<◌, [], ◌∷◌, None, Some, false, IfOk, IfSome, map, option_copied, slice_get, unsigned_abs};
 ghost use Rattle.apl_arrays.specs.Array.{element_count};
 ghost use Rattle.apl_items.specs.Answers.{Answers, first_report};
 ghost use Rattle.apl_selection.specs.Indexing.{index_faults, selection_of, indexed};
@@ -8,7 +8,7 @@ ghost use Rattle.apl_selection.specs.Subscripts.{is_miscounted, selection_shape}
 use crate::picks::{Picks, filled, picked_items};
 use crate::strides::length_of;
 use crate::subscripts::{
-    Subs, are_of_chars, is_miscounted, named_counts, place_from_0, point_outside, selection_shape,
+    are_of_chars, is_miscounted, named_counts, place_from_0, point_outside, selection_shape,
 };
 use apl_arrays::{Array, Fail, RANK_LIMIT, Report, WantOfMemory, count_of_elements, shape_fault};
 use apl_items::{Walk, moved};
@@ -19,11 +19,10 @@ use std::alloc::Global;
 /// the result has over eight axes, else DOMAIN where a subscript is of characters, else INDEX where a number of one is
 /// not from 1 to the length of its axis, else WS FULL where the result is too large. Where there is no report it takes memory
 /// for strides and the result.
-pub fn index(alloc: Global, b: &Array, subs: &Subs) -> Result<Array, Fail>
-    ensures answer { Answers result (selection_of b.now subs.now.items) }
-    ensures memory { OnWantOfMemory result (first_report (index_faults b.now subs.now.items) ≡ None) }
+pub fn index(alloc: Global, b: &Array, subs: &[Option<&Array>]) -> Result<Array, Fail>
+    ensures answer { Answers result (selection_of b.now (map option_copied subs.now)) }
+    ensures memory { OnWantOfMemory result (first_report (index_faults b.now (map option_copied subs.now)) ≡ None) }
 {
-    let subs = subs.as_slice();
     if is_miscounted(b.shape(), subs) {
         return Err(Fail::Report(Report::Rank));
     }
@@ -35,10 +34,10 @@ pub fn index(alloc: Global, b: &Array, subs: &Subs) -> Result<Array, Fail>
 }
 
 /// The report on a selection of this shape, if there is one.
-fn index_report(b: &Array, subs: &[Option<Array>], shape: &[u32]) -> Option<Report>
-    requires counted { is_miscounted b.now.shape subs.now ≡ false }
-    requires shape { shape.now ≡ selection_shape b.now.shape subs.now }
-    ensures { result ≡ first_report (index_faults b.now subs.now) }
+fn index_report(b: &Array, subs: &[Option<&Array>], shape: &[u32]) -> Option<Report>
+    requires counted { is_miscounted b.now.shape (map option_copied subs.now) ≡ false }
+    requires shape { shape.now ≡ selection_shape b.now.shape (map option_copied subs.now) }
+    ensures { result ≡ first_report (index_faults b.now (map option_copied subs.now)) }
 {
     if shape.len() > RANK_LIMIT {
         Some(Report::Rank)
@@ -57,12 +56,12 @@ fn index_report(b: &Array, subs: &[Option<Array>], shape: &[u32]) -> Option<Repo
 fn indexed(
     alloc: Global,
     b: &Array,
-    subs: &[Option<Array>],
+    subs: &[Option<&Array>],
     shape: &[u32],
 ) -> Result<Array, WantOfMemory>
-    requires fine { None ≡ first_report (index_faults b.now subs.now) }
-    requires shape { shape.now ≡ selection_shape b.now.shape subs.now }
-    ensures { IfOk result (λ array. array ≡ indexed b.now subs.now) }
+    requires fine { None ≡ first_report (index_faults b.now (map option_copied subs.now)) }
+    requires shape { shape.now ≡ selection_shape b.now.shape (map option_copied subs.now) }
+    ensures { IfOk result (λ array. array ≡ indexed b.now (map option_copied subs.now)) }
 {
     if count_of_elements(shape) == 0 {
         return Array::shaped(alloc, shape, filled(alloc, b.items(), 0)?);
@@ -74,13 +73,11 @@ fn indexed(
 }
 
 /// The subscript, where there is one alone and it is not omitted.
-fn lone_array(subs: &[Option<Array>]) -> Option<&Array>
-    ensures { IfSome result (λ sub. subs.now ≡ Some sub.now ∷ []) }
+#[tactic(auto, using(crate::proofs::SubscriptLemmas::lone_lent))]
+fn lone_array<'a>(subs: &[Option<&'a Array>]) -> Option<&'a Array>
+    ensures { IfSome result (λ sub. map option_copied subs.now ≡ Some sub.now ∷ []) }
 {
-    match subs {
-        [Some(sub)] => Some(sub),
-        _ => None,
-    }
+    if subs.len() == 1 { subs[0] } else { None }
 }
 
 /// The items of a vector that a subscript selects, one after another.
@@ -127,13 +124,13 @@ fn place_at(numbers: &[i64], at: usize) -> Option<usize>
 fn indexed_by_axes(
     alloc: Global,
     b: &Array,
-    subs: &[Option<Array>],
+    subs: &[Option<&Array>],
     shape: &[u32],
 ) -> Result<Array, WantOfMemory>
-    requires fine { None ≡ first_report (index_faults b.now subs.now) }
-    requires shape { shape.now ≡ selection_shape b.now.shape subs.now }
+    requires fine { None ≡ first_report (index_faults b.now (map option_copied subs.now)) }
+    requires shape { shape.now ≡ selection_shape b.now.shape (map option_copied subs.now) }
     requires some { 0 < element_count shape.now }
-    ensures { IfOk result (λ array. array ≡ indexed b.now subs.now) }
+    ensures { IfOk result (λ array. array ≡ indexed b.now (map option_copied subs.now)) }
 {
     let counts = named_counts(alloc, b.shape(), subs)?;
     let lengths = b.shape();
@@ -146,14 +143,14 @@ fn indexed_by_axes(
 #[derive(Drop)]
 struct NamedPlaces<'a> {
     lengths: &'a [u32],
-    subs: &'a [Option<Array>],
+    subs: &'a [Option<&'a Array>],
 }
 
 impl Picks for NamedPlaces<'_> {
-    ghost use Rattle.std.specs.Prelude.{slice_get};
+    ghost use Rattle.std.specs.Prelude.{map, option_copied, slice_get};
     ghost use Rattle.apl_selection.specs.Subscripts.{named_on};
 
-    ghost from = { λ n axis along. slice_get (named_on n.lengths.now n.subs.now axis) along };
+    ghost from = { λ n axis along. slice_get (named_on n.lengths.now (map option_copied n.subs.now) axis) along };
 
     fn from(&self, axis: usize, along: usize) -> Option<usize> {
         match self.subs.get(axis) {

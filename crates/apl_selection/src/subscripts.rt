@@ -1,4 +1,4 @@
-ghost use Rattle.std.specs.Prelude.{◌≡◌, ◌-◌, ◌≤◌, false, IfOk, length, unsigned_abs};
+ghost use Rattle.std.specs.Prelude.{◌≡◌, ◌-◌, ◌≤◌, false, IfOk, length, map, option_copied, unsigned_abs};
 ghost use Rattle.std.specs.List.{list_any};
 ghost use Rattle.apl_arrays.specs.Limits.{most_axes};
 ghost use Rattle.apl_arrays.specs.Array.{element_count, item_count, numbers_in, seen_items};
@@ -16,21 +16,26 @@ pub type Subs = List<Option<Array>>;
 const SELECTION_RANK_LIMIT: usize = 64;
 
 /// Whether there are not as many subscripts as axes, or no axes.
-pub(crate) fn is_miscounted(shape: &[u32], subs: &[Option<Array>]) -> bool
-    ensures { result ≡ is_miscounted shape.now subs.now }
+pub(crate) fn is_miscounted(shape: &[u32], subs: &[Option<&Array>]) -> bool
+    ensures { result ≡ is_miscounted shape.now (map option_copied subs.now) }
 {
     shape.is_empty() || subs.len() != shape.len()
 }
 
 /// Whether a subscript is of characters.
-pub(crate) fn are_of_chars(subs: &[Option<Array>]) -> bool
-    ensures { result ≡ list_any is_of_chars subs.now }
+pub(crate) fn are_of_chars(subs: &[Option<&Array>]) -> bool
+    ensures { result ≡ list_any is_of_chars (map option_copied subs.now) }
 {
-    subs.iter().any(|sub| is_of_chars(sub))
+    for axis in 0..subs.len() {
+        if is_of_chars(subs[axis]) {
+            return true;
+        }
+    }
+    false
 }
 
-fn is_of_chars(sub: &Option<Array>) -> bool
-    ensures { result ≡ is_of_chars sub.now }
+fn is_of_chars(sub: Option<&Array>) -> bool
+    ensures { result ≡ is_of_chars (option_copied sub.entry) }
 {
     match sub {
         None => false,
@@ -39,12 +44,12 @@ fn is_of_chars(sub: &Option<Array>) -> bool
 }
 
 /// Whether some subscript is outside its axis.
-pub(crate) fn point_outside(shape: &[u32], subs: &[Option<Array>]) -> bool
+pub(crate) fn point_outside(shape: &[u32], subs: &[Option<&Array>]) -> bool
     requires { length subs.now ≡ length shape.now }
-    ensures { result ≡ point_outside shape.now subs.now }
+    ensures { result ≡ point_outside shape.now (map option_copied subs.now) }
 {
     for axis in 0..shape.len() {
-        if points_outside(shape[axis], &subs[axis]) {
+        if points_outside(shape[axis], subs[axis]) {
             return true;
         }
     }
@@ -52,8 +57,8 @@ pub(crate) fn point_outside(shape: &[u32], subs: &[Option<Array>]) -> bool
 }
 
 /// Whether a number of a subscript is outside its axis.
-fn points_outside(length: u32, sub: &Option<Array>) -> bool
-    ensures { result ≡ points_outside length sub.now }
+fn points_outside(length: u32, sub: Option<&Array>) -> bool
+    ensures { result ≡ points_outside length (option_copied sub.entry) }
 {
     match sub {
         None => false,
@@ -77,23 +82,23 @@ fn is_outside(length: u32, number: i64) -> bool
 /// The shape of the selection.
 pub(crate) fn selection_shape(
     shape: &[u32],
-    subs: &[Option<Array>],
+    subs: &[Option<&Array>],
 ) -> ArrayVec<u32, SELECTION_RANK_LIMIT>
     requires counted { length subs.now ≡ length shape.now }
     requires rank { length shape.now ≤ most_axes }
-    ensures { result.items ≡ selection_shape shape.now subs.now }
+    ensures { result.items ≡ selection_shape shape.now (map option_copied subs.now) }
 {
     let mut axes = ArrayVec::new();
     for axis in 0..shape.len() {
-        let here = axes_by(&shape[axis], &subs[axis]);
+        let here = axes_by(&shape[axis], subs[axis]);
         axes.try_extend_from_slice(here).unwrap();
     }
     axes
 }
 
 /// The axes that a subscript gives to the selection.
-fn axes_by<'a>(long: &'a u32, sub: &'a Option<Array>) -> &'a [u32]
-    ensures value { result.now ≡ axes_by long.now sub.now }
+fn axes_by<'a>(long: &'a u32, sub: Option<&'a Array>) -> &'a [u32]
+    ensures value { result.now ≡ axes_by long.now (option_copied sub.entry) }
     ensures few { length result.now ≤ most_axes }
 {
     match sub {
@@ -106,23 +111,23 @@ fn axes_by<'a>(long: &'a u32, sub: &'a Option<Array>) -> &'a [u32]
 pub(crate) fn named_counts(
     alloc: Global,
     shape: &[u32],
-    subs: &[Option<Array>],
+    subs: &[Option<&Array>],
 ) -> Result<Vec<u32>, WantOfMemory>
     requires { length subs.now ≡ length shape.now }
-    ensures value { IfOk result (λ counts. counts.items ≡ named_counts shape.now subs.now) }
-    ensures whole { IfOk result (λ counts. list_any is_of_chars subs.now ≡ false → element_count counts.items ≡ element_count (selection_shape shape.now subs.now)) }
+    ensures value { IfOk result (λ counts. counts.items ≡ named_counts shape.now (map option_copied subs.now)) }
+    ensures whole { IfOk result (λ counts. list_any is_of_chars (map option_copied subs.now) ≡ false → element_count counts.items ≡ element_count (selection_shape shape.now (map option_copied subs.now))) }
 {
     let mut counts = Vec::new(alloc);
     for axis in 0..shape.len() {
-        counts.push(named_count(shape[axis], &subs[axis]))?;
+        counts.push(named_count(shape[axis], subs[axis]))?;
     }
     Ok(counts)
 }
 
 /// How many places along its axis a subscript names.
-fn named_count(axis: u32, sub: &Option<Array>) -> u32
-    ensures value { result ≡ length (named_by axis sub.now) }
-    ensures whole { is_of_chars sub.now ≡ false → result ≡ element_count (axes_by axis sub.now) }
+fn named_count(axis: u32, sub: Option<&Array>) -> u32
+    ensures value { result ≡ length (named_by axis (option_copied sub.entry)) }
+    ensures whole { is_of_chars (option_copied sub.entry) ≡ false → result ≡ element_count (axes_by axis (option_copied sub.entry)) }
 {
     match sub {
         None => axis,

@@ -1,9 +1,8 @@
-//! What is wrong with subscripts that a statement still holds, told before memory is taken for them.
+//! Subscripts that a statement still holds, which are lent and let go of.
 #![tactic(auto)]
 
 mod held;
-mod reports;
-mod tests;
+mod selecting;
 
-pub use held::given_count;
-pub use reports::{index_report, replacing_report};
+pub use held::{given_count, let_go_of_subs, places_at};
+pub use selecting::{index_held, items_assigned, items_replaced};

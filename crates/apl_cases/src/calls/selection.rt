@@ -1,7 +1,7 @@
 use crate::calls::given::{array, ended, lent, lent_both, look_at};
 use anyhow::Result;
 use apl_arrays::{Array, Fail, Way};
-use apl_selection::{Subs, catenate, compress, expand, index, index_assign};
+use apl_selection::{catenate, compress, expand, index, index_assign};
 use case_tables::{Calls, Looks};
 use std::alloc::Global;
 
@@ -35,21 +35,15 @@ fn joined_and_kept(alloc: Global, b: &Array, looks: &mut Looks) -> Result<(), Fa
     })
 }
 
-// All rows, and the columns the other way round.
-fn subscripts(alloc: Global) -> Result<Subs, Fail> {
-    let mut subs = Subs::new(alloc);
-    subs.push(None)?;
-    subs.push(Some(array(alloc, &[2], &[2, 1])?))?;
-    Ok(subs)
-}
-
-// What subscripts select, and items put over it.
+// What subscripts select, and items put over it: all rows, and the columns the other way round.
 fn selected(alloc: Global, b: &Array, looks: &mut Looks) -> Result<(), Fail> {
+    let columns = array(alloc, &[2], &[2, 1]);
     let over = array(alloc, &[2, 2], &[6, 7, 8, 9]);
-    lent_both(subscripts(alloc), over, |subs, over| {
-        let turned = index(alloc, b, subs);
+    lent_both(columns, over, |columns, over| {
+        let subs = [None, Some(columns)];
+        let turned = index(alloc, b, &subs);
         look_at(looks, turned, array(alloc, &[2, 2], &[1, 3, 2, 4]))?;
-        let assigned = index_assign(alloc, b, subs, over);
+        let assigned = index_assign(alloc, b, &subs, over);
         look_at(looks, assigned, array(alloc, &[2, 2], &[7, 6, 9, 8]))
     })
 }

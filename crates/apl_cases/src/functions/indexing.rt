@@ -1,4 +1,5 @@
 use anyhow::{Result, bail};
+use apl_arrays::Array;
 use apl_structure::{Subs, index, index_assign};
 use case_fields::{array_of, optional_of, outcome_text};
 use case_tables::Trial;
@@ -21,6 +22,15 @@ fn subs_of(alloc: Global, field: &str) -> Result<Subs> {
     Ok(subs)
 }
 
+// Subscripts, lent.
+fn lent(alloc: Global, subs: &Subs) -> Result<Vec<Option<&Array>>> {
+    let mut list = Vec::new(alloc);
+    for sub in subs.as_slice() {
+        list.push(sub.as_ref())?;
+    }
+    Ok(list)
+}
+
 impl Trial for Indexings {
     fn given(&self) -> usize {
         2
@@ -31,7 +41,9 @@ impl Trial for Indexings {
             bail!("an array and subscripts are wanted");
         };
         let argument = array_of(alloc, *argument)?;
-        outcome_text(alloc, index(alloc, &argument, &subs_of(alloc, *subs)?))
+        let subs = subs_of(alloc, *subs)?;
+        let lent = lent(alloc, &subs)?;
+        outcome_text(alloc, index(alloc, &argument, lent.as_slice()))
     }
 }
 
@@ -46,6 +58,10 @@ impl Trial for Assignments {
         };
         let (argument, items) = (array_of(alloc, *argument)?, array_of(alloc, *items)?);
         let subs = subs_of(alloc, *subs)?;
-        outcome_text(alloc, index_assign(alloc, &argument, &subs, &items))
+        let lent = lent(alloc, &subs)?;
+        outcome_text(
+            alloc,
+            index_assign(alloc, &argument, lent.as_slice(), &items),
+        )
     }
 }

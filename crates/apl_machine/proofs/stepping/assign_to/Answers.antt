@@ -1,14 +1,29 @@
-use Rattle.std.proofs.Common.{sym, subst}
-use Rattle.std.specs.Prelude.{option_map}
+use Rattle.std.proofs.Common.{Bool, sym, subst}
 use Rattle.apl_items.specs.Places.{OnWantOfMemory}
 use Rattle.apl_workspace.specs.Workspace.{look}
-use Rattle.apl_machine.specs.Nexts.{MayBeAssigned}
+use Rattle.apl_statements.specs.Interpreter.{PlainInterpreter}
+use Rattle.apl_statements.specs.Moves.{Comes, part_takes}
+use Rattle.apl_statements.specs.Stack.{assignment_step}
+use Rattle.apl_subscripts.specs.Held.{places_at}
+use Rattle.apl_machine.specs.Nexts.{MayBeAssigned, given_places}
 use Rattle.apl_machine.proofs.stepping.assign_to.Goals as goal
 
-pub returns-in-None-clause-memory : goal.returns-in-None-clause-memory
-returns-in-None-clause-memory c =
-    subst (λ places. OnWantOfMemory c.assign.result (MayBeAssigned (option_map (λ places. places.items) places) c.args.interpreter.now.workspace c.args.e (look c.args.interpreter.now.workspace c.args.name))) (sym c.in-None.is) c.assign.ensures.memory
+pub returns-then-has_subs-clause-comes : goal.returns-then-has_subs-clause-comes
+returns-then-has_subs-clause-comes c =
+    let m : PlainInterpreter = c.args.interpreter.now in
+    subst (λ (b : Bool). Comes m (part_takes m c.args.e (assignment_step c.args.name (given_places b (places_at c.args.e c.args.at)))) 0 c.assign_items.new.interpreter c.assign_items.result) (sym c.if-has_subs.true) c.assign_items.ensures.comes
 
-pub returns-in-Some-clause-memory : goal.returns-in-Some-clause-memory
-returns-in-Some-clause-memory c =
-    subst (λ places. OnWantOfMemory c.assign_items.result (MayBeAssigned (option_map (λ places. places.items) places) c.args.interpreter.now.workspace c.args.e (look c.args.interpreter.now.workspace c.args.name))) (sym c.in-Some.is) c.assign_items.ensures.memory
+pub returns-else-has_subs-clause-comes : goal.returns-else-has_subs-clause-comes
+returns-else-has_subs-clause-comes c =
+    let m : PlainInterpreter = c.args.interpreter.now in
+    subst (λ (b : Bool). Comes m (part_takes m c.args.e (assignment_step c.args.name (given_places b (places_at c.args.e c.args.at)))) 0 c.assign.new.interpreter c.assign.result) (sym c.if-has_subs.false) c.assign.ensures.comes
+
+pub returns-then-has_subs-clause-memory : goal.returns-then-has_subs-clause-memory
+returns-then-has_subs-clause-memory c =
+    let m : PlainInterpreter = c.args.interpreter.now in
+    subst (λ (b : Bool). OnWantOfMemory c.assign_items.result (MayBeAssigned (given_places b (places_at c.args.e c.args.at)) m.workspace c.args.e (look m.workspace c.args.name))) (sym c.if-has_subs.true) c.assign_items.ensures.memory
+
+pub returns-else-has_subs-clause-memory : goal.returns-else-has_subs-clause-memory
+returns-else-has_subs-clause-memory c =
+    let m : PlainInterpreter = c.args.interpreter.now in
+    subst (λ (b : Bool). OnWantOfMemory c.assign.result (MayBeAssigned (given_places b (places_at c.args.e c.args.at)) m.workspace c.args.e (look m.workspace c.args.name))) (sym c.if-has_subs.false) c.assign.ensures.memory

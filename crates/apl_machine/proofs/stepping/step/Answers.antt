@@ -6,7 +6,7 @@ use Rattle.apl_items.proofs.RowLemmas.{weaker_want}
 use Rattle.apl_selection.proofs.WantLemmas.{on_want}
 use Rattle.apl_workspace.specs.declared.args.Args.{Args}
 use Rattle.line_trees.specs.Nodes as node
-use Rattle.line_trees.specs.Nodes.{plain_node}
+use Rattle.line_trees.specs.Nodes.{PlainNode, plain_node}
 use Rattle.line_trees.specs.declared.tree.Fun.{Fun}
 use Rattle.line_trees.specs.declared.tree.Node.{Node}
 use Rattle.line_trees.specs.declared.tree.Node.TheVariants as coded
@@ -27,8 +27,9 @@ use Rattle.apl_statements.specs.Holding.{parts_of, stack_values}
 use Rattle.apl_statements.specs.Wants.{NoReportIsDue}
 use Rattle.apl_statements.proofs.Moving.{moved_none, none_counted}
 use Rattle.apl_statements.proofs.Same.{at_once, comes_as}
-use Rattle.apl_machine.specs.Nexts.{IsNext}
-use Rattle.apl_machine.proofs.StepParts.{next_apply, next_assign, next_constant, next_gives, next_paren, next_takes, next_too_large, passed, read_next, read_part, read_sound, to_come}
+use Rattle.apl_subscripts.specs.Held.{places_at, places_in}
+use Rattle.apl_machine.specs.Nexts.{IsNext, given_places}
+use Rattle.apl_machine.proofs.StepParts.{given_is, next_apply, next_assign, next_constant, next_gives, next_paren, next_takes, next_too_large, passed, read_next, read_part, read_sound, to_come}
 use Rattle.apl_calls.specs.Callings.{MayBeCalled}
 use Rattle.apl_machine.specs.Wants.{no_lines}
 use Rattle.apl_machine.proofs.WantSteps.{apply_free, apply_looks, assign_late, constant_free, niladic_free, node_free, not_first, value_free}
@@ -90,15 +91,15 @@ returns-in-Paren-clause-comes g c =
     let next : IsNext e (node.paren c.in-Paren.field-0) = next_is g (goal.at.returns-in-Paren-clause-comes g c).In-Other (coded.Paren c.in-Paren.field-0) c.in-Paren.is in
     moved_none m m (to_come m e) (to_come m (passed e)) (c.args.steps.now - c.args.steps.now) (omega arith) (at_once m (to_come m e) (to_come m (passed e)) (next_paren m e c.in-Paren.field-0 next c.requires.sound.there))
 
-pub returns-in_ok-places-in-Indexed-clause-comes : goal.returns-in_ok-places-in-Indexed-clause-comes
-returns-in_ok-places-in-Indexed-clause-comes g c =
+pub returns-in-Indexed-clause-comes : goal.returns-in-Indexed-clause-comes
+returns-in-Indexed-clause-comes g c =
     let m : PlainInterpreter = c.args.interpreter.now in
     let e : Evaluation = c.args.e in
-    let next : IsNext e (node.indexed c.in-Indexed.value c.in-Indexed.subs.items) = next_is g (goal.at.returns-in_ok-places-in-Indexed-clause-comes g c).In-Other (coded.Indexed c.in-Indexed.value c.in-Indexed.subs) c.in-Indexed.is in
+    let next : IsNext e (node.indexed c.in-Indexed.value c.in-Indexed.subs.items) = next_is g (goal.at.returns-in-Indexed-clause-comes g c).In-Other (coded.Indexed c.in-Indexed.value c.in-Indexed.subs) c.in-Indexed.is in
     none_counted m m (to_come m e) (c.args.steps.now - c.args.steps.now) c.index_value.result (omega arith)
-    (comes_as m m (to_come m e) (part_takes m (passed e) (indexed_step c.in_ok-places-in-Indexed.places.items)) 0 c.index_value.result (λ asked count taken further.
+    (comes_as m m (to_come m e) (part_takes m (passed e) (indexed_step (places_at (passed e) e.at))) 0 c.index_value.result (λ asked count taken further.
     next_takes m e (node.indexed c.in-Indexed.value c.in-Indexed.subs.items) next c.requires.sound.there asked count taken further
-    ∙ ap (λ (places : List (Option ℕ)). part_takes m (passed e) (indexed_step places) (state_at m asked count taken further)) (sym c.in_ok-places-in-Indexed.ensures)) c.index_value.ensures.comes)
+    ∙ ap (λ (places : List (Option ℕ)). part_takes m (passed e) (indexed_step places) (state_at m asked count taken further)) (sym (ap places_in next))) c.index_value.ensures.comes)
 
 pub returns-in-Apply-clause-comes : goal.returns-in-Apply-clause-comes
 returns-in-Apply-clause-comes g c =
@@ -112,15 +113,18 @@ returns-in-Apply-clause-comes g c =
     ∙ ap (λ (b : Bool). part_takes m (passed e) (apply_step ran c.in-Apply.function (if_there b) (if_there (is_some c.in-Apply.axis))) (state_at m asked count taken further)) has_left
     ∙ ap (λ (b : Bool). part_takes m (passed e) (apply_step ran c.in-Apply.function (if_there c.is_some-has_left.result) (if_there b)) (state_at m asked count taken further)) has_axis) c.perform.ensures.comes
 
-pub returns-in_ok-places-in-Assign-clause-comes : goal.returns-in_ok-places-in-Assign-clause-comes
-returns-in_ok-places-in-Assign-clause-comes g c =
+pub returns-in-Assign-clause-comes : goal.returns-in-Assign-clause-comes
+returns-in-Assign-clause-comes g c =
     let m : PlainInterpreter = c.args.interpreter.now in
     let e : Evaluation = c.args.e in
-    let next : IsNext e (plain_node (coded.Assign c.in-Assign.target c.in-Assign.subs c.in-Assign.right)) = next_is g (goal.at.returns-in_ok-places-in-Assign-clause-comes g c).In-Other (coded.Assign c.in-Assign.target c.in-Assign.subs c.in-Assign.right) c.in-Assign.is in
+    let next : IsNext e (plain_node (coded.Assign c.in-Assign.target c.in-Assign.subs c.in-Assign.right)) = next_is g (goal.at.returns-in-Assign-clause-comes g c).In-Other (coded.Assign c.in-Assign.target c.in-Assign.subs c.in-Assign.right) c.in-Assign.is in
+    let has_subs : c.is_some-has_subs.result ≡ is_some c.in-Assign.subs = cc in
+    let given : given_places c.is_some-has_subs.result (places_at (passed e) e.at) ≡ option_map (λ places. places.items) c.in-Assign.subs =
+    ap (λ (n : Option PlainNode). given_places c.is_some-has_subs.result (places_in n)) next ∙ given_is c.in-Assign.target c.in-Assign.subs c.in-Assign.right c.is_some-has_subs.result has_subs in
     none_counted m c.assign_to.new.interpreter (to_come m e) (c.args.steps.now - c.args.steps.now) c.assign_to.result (omega arith)
-    (comes_as m c.assign_to.new.interpreter (to_come m e) (part_takes m (passed e) (assignment_step c.in-Assign.target (option_map (λ places. places.items) c.in_ok-places-in-Assign.places))) 0 c.assign_to.result (λ asked count taken further.
+    (comes_as m c.assign_to.new.interpreter (to_come m e) (part_takes m (passed e) (assignment_step c.in-Assign.target (given_places c.is_some-has_subs.result (places_at (passed e) e.at)))) 0 c.assign_to.result (λ asked count taken further.
     next_assign m e c.in-Assign.target c.in-Assign.subs c.in-Assign.right next c.requires.sound.there asked count taken further
-    ∙ ap (λ (places : Option (List (Option ℕ))). part_takes m (passed e) (assignment_step c.in-Assign.target places) (state_at m asked count taken further)) (sym c.in_ok-places-in-Assign.ensures)) c.assign_to.ensures.comes)
+    ∙ ap (λ (places : Option (List (Option ℕ))). part_takes m (passed e) (assignment_step c.in-Assign.target places) (state_at m asked count taken further)) (sym given)) c.assign_to.ensures.comes)
 
 -- ---- where memory ran out
 
@@ -155,15 +159,15 @@ returns-in-Niladic-clause-memory g c n next first =
     (λ may. node_free m e (node.niladic c.in-Niladic.name) n (stack_values m.workspace e) own next
     (niladic_free m c.in-Niladic.name (stack_values m.workspace e) (subst (MayBeCalled m.workspace c.in-Niladic.name) c.no_arguments.ensures may))) c.call.ensures.memory
 
-pub returns-in_err-places-in-Indexed-clause-memory : goal.returns-in_err-places-in-Indexed-clause-memory
-returns-in_err-places-in-Indexed-clause-memory g c n next first =
-    let own : IsNext c.args.e (node.indexed c.in-Indexed.value c.in-Indexed.subs.items) = next_is g (goal.at.returns-in_err-places-in-Indexed-clause-memory g c).In-Other (coded.Indexed c.in-Indexed.value c.in-Indexed.subs) c.in-Indexed.is in
-    absurd (not_first c.args.e (node.indexed c.in-Indexed.value c.in-Indexed.subs.items) n own next refl first)
-
-pub returns-in_ok-places-in-Indexed-clause-memory : goal.returns-in_ok-places-in-Indexed-clause-memory
-returns-in_ok-places-in-Indexed-clause-memory g c n next first =
-    let own : IsNext c.args.e (node.indexed c.in-Indexed.value c.in-Indexed.subs.items) = next_is g (goal.at.returns-in_ok-places-in-Indexed-clause-memory g c).In-Other (coded.Indexed c.in-Indexed.value c.in-Indexed.subs) c.in-Indexed.is in
-    absurd (not_first c.args.e (node.indexed c.in-Indexed.value c.in-Indexed.subs.items) n own next refl first)
+pub returns-in-Indexed-clause-memory : goal.returns-in-Indexed-clause-memory
+returns-in-Indexed-clause-memory g c n next first =
+    let m : PlainInterpreter = c.args.interpreter.now in
+    let e : Evaluation = c.args.e in
+    let values : List PlainArray = stack_values m.workspace e in
+    let own : IsNext e (node.indexed c.in-Indexed.value c.in-Indexed.subs.items) = next_is g (goal.at.returns-in-Indexed-clause-memory g c).In-Other (coded.Indexed c.in-Indexed.value c.in-Indexed.subs) c.in-Indexed.is in
+    weaker_want c.index_value.result (NoReportIsDue m (indexed_step (places_at (passed e) e.at) values)) (NoReportIsDue m (node_step no_lines n values))
+    (λ free. node_free m e (node.indexed c.in-Indexed.value c.in-Indexed.subs.items) n values own next (λ asked count taken. subst (λ (places : List (Option ℕ)). NoReportIsDue m (indexed_step places values)) (ap places_in own) free asked count taken))
+    c.index_value.ensures.memory
 
 pub returns-in-Apply-clause-memory : goal.returns-in-Apply-clause-memory
 returns-in-Apply-clause-memory g c n next first =
@@ -179,12 +183,7 @@ returns-in-Apply-clause-memory g c n next first =
     (subst (λ (b : Bool). due m c.in-Apply.function values (is_some c.in-Apply.left) b) (sym has_axis) (subst (λ (b : Bool). due m c.in-Apply.function values b c.is_some-has_axis.result) (sym has_left) free))))
     (c.perform.ensures.memory (apply_looks e c.in-Apply.function c.in-Apply.left c.in-Apply.right c.in-Apply.axis n own next first))
 
-pub returns-in_err-places-in-Assign-clause-memory : goal.returns-in_err-places-in-Assign-clause-memory
-returns-in_err-places-in-Assign-clause-memory g c n next first =
-    let own : IsNext c.args.e (plain_node (coded.Assign c.in-Assign.target c.in-Assign.subs c.in-Assign.right)) = next_is g (goal.at.returns-in_err-places-in-Assign-clause-memory g c).In-Other (coded.Assign c.in-Assign.target c.in-Assign.subs c.in-Assign.right) c.in-Assign.is in
-    absurd (not_first c.args.e _ n own next (assign_late c.in-Assign.target c.in-Assign.subs c.in-Assign.right) first)
-
-pub returns-in_ok-places-in-Assign-clause-memory : goal.returns-in_ok-places-in-Assign-clause-memory
-returns-in_ok-places-in-Assign-clause-memory g c n next first =
-    let own : IsNext c.args.e (plain_node (coded.Assign c.in-Assign.target c.in-Assign.subs c.in-Assign.right)) = next_is g (goal.at.returns-in_ok-places-in-Assign-clause-memory g c).In-Other (coded.Assign c.in-Assign.target c.in-Assign.subs c.in-Assign.right) c.in-Assign.is in
+pub returns-in-Assign-clause-memory : goal.returns-in-Assign-clause-memory
+returns-in-Assign-clause-memory g c n next first =
+    let own : IsNext c.args.e (plain_node (coded.Assign c.in-Assign.target c.in-Assign.subs c.in-Assign.right)) = next_is g (goal.at.returns-in-Assign-clause-memory g c).In-Other (coded.Assign c.in-Assign.target c.in-Assign.subs c.in-Assign.right) c.in-Assign.is in
     absurd (not_first c.args.e _ n own next (assign_late c.in-Assign.target c.in-Assign.subs c.in-Assign.right) first)

@@ -1,4 +1,5 @@
 use Rattle.std.proofs.Common.{◌≡◌, ◌≤◌, drop, length, map}
+use Rattle.std.specs.Prelude.{option_copied}
 use Rattle.apl_arrays.specs.Array.{element_count}
 use Rattle.apl_items.specs.Axes.{offset_at}
 use Rattle.apl_items.specs.Places.{places}
@@ -10,7 +11,7 @@ use Rattle.apl_selection.proofs.assignment.naming.Given as goal
 abbrev pub invariant-loop-axis : goal.invariant-loop-axis
 invariant-loop-axis l = record {
   inside : l.axis ≤ length l.shape;
-  told : l.after.items ≡ map (λ place. offset_at (naming_by l.shape l.subs l.strides) l.axis (coordinates_of (drop l.axis l.shape) place)) (places (element_count (drop l.axis l.shape)));
+  told : l.after.items ≡ map (λ place. offset_at (naming_by l.shape (map option_copied l.subs) l.strides) l.axis (coordinates_of (drop l.axis l.shape) place)) (places (element_count (drop l.axis l.shape)));
 }
 
 -- the axes that are left

@@ -8,6 +8,6 @@ returns-in-None c = record { value = rw c.in-None.is (sym (all_named c.args.axis
 
 pub returns-in-Some : goal.returns-in-Some
 returns-in-Some c = record {
-  value = rw c.in-Some.is (numbers_named c.args.axis c.in-Some.array (seen_items c.items.result) c.count_of_numbers.result c.items.ensures.value c.count_of_numbers.ensures);
-  whole = rw c.in-Some.is (λ kind. as_many_numbers c.in-Some.array (seen_items c.items.result) c.count_of_numbers.result c.items.ensures.array c.items.ensures.value c.count_of_numbers.ensures kind);
+  value = rw c.in-Some.is (numbers_named c.args.axis c.in-Some.array.now (seen_items c.items.result) c.count_of_numbers.result c.items.ensures.value c.count_of_numbers.ensures);
+  whole = rw c.in-Some.is (λ kind. as_many_numbers c.in-Some.array.now (seen_items c.items.result) c.count_of_numbers.result c.items.ensures.array c.items.ensures.value c.count_of_numbers.ensures kind);
 }
