@@ -1,6 +1,6 @@
 -- The session around its inside, as its drivers see it.
 use Rattle.std.proofs.Common.{◌≡◌, ◌≢◌, ℕ, List, [], ◌∷◌, ◌++◌, IsTrue, not, refl, sym, ap, subst, ◌∙◌, append_assoc}
-use Rattle.std.specs.Prelude.{Option, Some, length}
+use Rattle.std.specs.Prelude.{IfSome, None, Option, Some, length}
 use Rattle.apl_io.specs.Content.{Told}
 use Rattle.sv_events.specs.Answer.{PlainAnswer}
 use Rattle.sv_events.specs.declared.event.Act.{Act}
@@ -12,12 +12,11 @@ use Rattle.session_rules.proofs.Taking.{none_leaves}
 use Rattle.apl_session.specs.PlainSession.{GoesTo, HasCome, PlainSession}
 use Rattle.apl_session.specs.Receipts.{PlainReceipt, acts_in, answers_in}
 use Rattle.apl_session.specs.Standing.{SessionComesTo, IsAlive, IsAnswered, IsOpenLine, IsSession, IsThisFar, MayAdvance, StandsIn, WithCalls, open_act}
-use Rattle.apl_session.specs.Wants.{HasHeardAll, MayGoOn, stage_by, wanted}
+use Rattle.apl_session.specs.Wants.{HasHeardAll, MayGoOn, stage_by}
 use Rattle.apl_session.specs.declared.progress.Progress.{Progress}
 use Rattle.apl_session.specs.declared.session.SessionStage.{SessionStage}
 use Rattle.apl_session.specs.declared.session.SessionStage.TheVariants as stage
-use Rattle.apl_session.specs.declared.session.Wants.{Wants}
-use Rattle.apl_session.proofs.Inside.{IsThere, answered_session, gone_on, heard_all, is_open_line, may_advance}
+use Rattle.apl_session.proofs.Inside.{IsThere, answered_session, gone_on, heard_all, is_open_line, may_advance, open_waits}
 
 -- what holds of a session unless it failed
 abbrev pub IfAlive : List (List ℕ) → List PlainReceipt → Progress → SessionStage → Type 0
@@ -69,15 +68,15 @@ module _ {K : Type 0} (told : K → Option (Told (ℕ × List ℕ))) (faults : K
       }
 
   -- a session that has come somewhere went on to what it asks
-  pub went_on : (s now : PlainSession K) (wants : Wants) (shown : List (List ℕ)) (before : Progress) → s.inside ≡ before → shown ≡ s.lines → now ≡ record s { stage = now.stage; shelf = now.shelf; inside = now.inside } → wanted wants ≡ open_act now.inside.under_way
+  pub went_on : (s now : PlainSession K) (shown : List (List ℕ)) (before : Progress) → s.inside ≡ before → shown ≡ s.lines → now ≡ record s { stage = now.stage; shelf = now.shelf; inside = now.inside }
       → ((answers : List PlainAnswer) (exchanges : List Exchange) → StandsIn shown answers exchanges before → WithCalls told faults s.user s.shelf now.shelf exchanges (λ all. SessionComesTo shown answers all now.inside))
-      → (lent : K) (exchanges : List Exchange) → HasCome told faults lent exchanges s → GoesTo told faults lent exchanges wants now
-  went_on s now wants shown before inside same kept asks goes lent exchanges h =
+      → (lent : K) (exchanges : List Exchange) → HasCome told faults lent exchanges s → GoesTo told faults lent exchanges now
+  went_on s now shown before inside same kept goes lent exchanges h =
       let moved = goes s.answers exchanges (subst (λ (p : Progress). StandsIn shown s.answers exchanges p) inside (subst (λ (list : List (List ℕ)). StandsIn list s.answers exchanges s.inside) (sym same) h.stands)) in
       let come : SessionComesTo s.lines s.answers (moved.more ++ exchanges) now.inside = subst (λ (list : List (List ℕ)). SessionComesTo list s.answers (moved.more ++ exchanges) now.inside) same moved.holds in
       let there = (gone_on s.lines s.answers (moved.more ++ exchanges) now.inside come).0 in
       let after : PlainSession K = record s { stage = now.stage; shelf = now.shelf; inside = now.inside } in
-      subst (λ (n : PlainSession K). GoesTo told faults lent exchanges wants n) (sym kept)
+      subst (λ (n : PlainSession K). GoesTo told faults lent exchanges n) (sym kept)
       (record {
         more = moved.more;
         come = record {
@@ -85,28 +84,23 @@ module _ {K : Type 0} (told : K → Option (Told (ℕ × List ℕ))) (faults : K
           acts = acts_stay s.lines s.acts s.answers exchanges moved.more h.acts;
           stands = come.stands;
         };
-        waits = λ rest. asks ∙ sym (there.waits rest);
+        waits = λ rest. sym (there.waits rest);
         calls = there.calls;
       })
 
 module _ {K : Type 0} (told : K → Option (Told (ℕ × List ℕ))) (faults : K → ℕ) where
   -- the same of a session as it is seen
-  pub next_goes : (s : PlainSession K) (user : ℕ) (lines shown : List (List ℕ)) (receipts : List PlainReceipt) (before after : Progress) (at now : SessionStage) (old new : K) (wants : Wants) → seen user lines receipts at old before ≡ s → shown ≡ lines → wanted wants ≡ open_act after.under_way
+  pub next_goes : (s : PlainSession K) (user : ℕ) (lines shown : List (List ℕ)) (receipts : List PlainReceipt) (before after : Progress) (at now : SessionStage) (old new : K) → seen user lines receipts at old before ≡ s → shown ≡ lines
       → ((answers : List PlainAnswer) (exchanges : List Exchange) → StandsIn shown answers exchanges before → WithCalls told faults user old new exchanges (λ all. SessionComesTo shown answers all after))
-      → (lent : K) (exchanges : List Exchange) → HasCome told faults lent exchanges s → GoesTo told faults lent exchanges wants (seen user lines receipts now new after)
-  next_goes s user lines shown receipts before after at now old new wants is same asks goes lent exchanges h =
-      went_on told faults (seen user lines receipts at old before) (seen user lines receipts now new after) wants shown before refl same refl asks goes lent exchanges (subst (λ (one : PlainSession K). HasCome told faults lent exchanges one) (sym is) h)
+      → (lent : K) (exchanges : List Exchange) → HasCome told faults lent exchanges s → GoesTo told faults lent exchanges (seen user lines receipts now new after)
+  next_goes s user lines shown receipts before after at now old new is same goes lent exchanges h =
+      went_on told faults (seen user lines receipts at old before) (seen user lines receipts now new after) shown before refl same refl goes lent exchanges (subst (λ (one : PlainSession K). HasCome told faults lent exchanges one) (sym is) h)
 
--- no act that it asks is a leave
-pub no_leave : (lines : List (List ℕ)) (answers : List PlainAnswer) (exchanges : List Exchange) (p : Progress) (asked : Act) → SessionComesTo lines answers exchanges p → open_act p.under_way ≡ Some asked → IsTrue (not (is_leave asked))
-no_leave lines answers exchanges p asked come is = none_leaves lines answers (shelf_replies_in exchanges ++ []) asked (let there = (gone_on lines answers exchanges p come).0 in there.waits [] ∙ is)
-
--- so it is where a session went on
-pub next_stays : {K : Type 0} (told : K → Option (Told (ℕ × List ℕ))) (faults : K → ℕ) (user : ℕ) (lines shown : List (List ℕ)) (receipts : List PlainReceipt) (before after : Progress) (at : SessionStage) (old new : K) (asked : Act) → shown ≡ lines → IsAlive lines receipts before at
-    → ((answers : List PlainAnswer) (exchanges : List Exchange) → StandsIn shown answers exchanges before → WithCalls told faults user old new exchanges (λ all. SessionComesTo shown answers all after)) → open_act after.under_way ≡ Some asked → IsTrue (not (is_leave asked))
-next_stays told faults user lines shown receipts before after at old new asked same h goes is =
-    let moved = goes (answers_in receipts) h.exchanges (subst (λ (list : List (List ℕ)). StandsIn list (answers_in receipts) h.exchanges before) (sym same) h.come.stands) in
-    no_leave shown (answers_in receipts) (moved.more ++ h.exchanges) after asked moved.holds is
+-- the act that waits in a session that lives, if one does, is no leave
+pub open_stays : (lines : List (List ℕ)) (receipts : List PlainReceipt) (p : Progress) (at : SessionStage) (found : Option Act) → IsAlive lines receipts p at → found ≡ open_act p.under_way → IfSome found (λ act. IsTrue (not (is_leave act)))
+open_stays lines receipts p at None h is = tt
+open_stays lines receipts p at (Some act) h is =
+    none_leaves lines (answers_in receipts) (shelf_replies_in h.exchanges ++ []) act (open_waits lines (answers_in receipts) h.exchanges p.read p.terminal p.under_way act h.come.stands (sym is) [])
 
 -- ---- it is given an answer
 

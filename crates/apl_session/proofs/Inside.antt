@@ -1,6 +1,7 @@
 -- What each call does to the inside of a session.
 use Rattle.std.proofs.Common.{◌≡◌, ℕ, ◌+◌, Bool, true, false, List, [], ◌∷◌, ◌++◌, drop, length, refl, sym, ap, subst, ◌∙◌, append-nil, inl, inr}
 use Rattle.std.proofs.lemmas.List.{drop-drop, drop_all, map_push}
+use Rattle.std.proofs.lemmas.Option.{none-some}
 use Rattle.std.specs.Prelude.{Option, Some, None, if◌then◌else◌}
 use Rattle.apl_arrays.specs.declared.report.Report.{Report}
 use Rattle.apl_machine.specs.Machine.{PlainMachine, silent}
@@ -22,11 +23,12 @@ use Rattle.session_rules.specs.Shelf.{Exchange, ShelfReply, shelf_replies_in}
 use Rattle.session_rules.proofs.MoreAnswers.{ended_on}
 use Rattle.session_rules.proofs.Taking.{next_is_taken, none_asked}
 use Rattle.apl_session.specs.Receipts.{PlainReceipt, acts_in, answers_in}
-use Rattle.apl_session.specs.Standing.{SessionComesTo, IsAnswered, IsAsking, IsAt, IsBetween, IsOpenLine, LinesAreOver, IsPaused, IsSession, IsThisFar, IsUnderWay, IsWaitingFor, MayAdvance, StandsBy, StandsIn, Waits, open_act}
-use Rattle.apl_session.specs.Wants.{HasHeardAll, MayGoOn, stage_by}
+use Rattle.apl_session.specs.Standing.{SessionComesTo, IsAnswered, IsAsking, IsAt, IsBetween, IsOpenLine, LinesAreOver, IsPaused, IsSession, IsThisFar, IsUnderWay, IsWaitingFor, MayAdvance, StandsBy, StandsIn, Waits, has_open_act, open_act}
+use Rattle.apl_session.specs.Wants.{HasHeardAll, MayGoOn, need_by, stage_by}
 use Rattle.apl_session.specs.declared.progress.Progress.{Progress}
 use Rattle.apl_session.specs.declared.session.SessionStage.{SessionStage}
 use Rattle.apl_session.specs.declared.session.SessionStage.TheVariants as stage
+use Rattle.apl_session.specs.declared.session.Need.TheVariants as need
 use Rattle.apl_session.specs.declared.under_way.UnderWay.{UnderWay}
 use Rattle.apl_session.specs.declared.under_way.UnderWay.TheVariants as under_way
 use Rattle.apl_session.proofs.Commanding.{command_waiting}
@@ -197,6 +199,34 @@ gone_by lines answers exchanges read t (under_way.Asking b act) h paused over = 
 gone_by lines answers exchanges read t (under_way.Answered b) h paused over = absurd paused
 gone_by lines answers exchanges read t (under_way.Commanding b act) h paused over = let w = command_waiting lines answers exchanges read t b.value act h.0 h.1 in (record { waits = w.waits; calls = w.calls }, refl)
 gone_by lines answers exchanges read t (under_way.Commanded b) h paused over = absurd paused
+
+-- the act that waits is the one that the lines ask, whatever replies follow
+pub open_waits : (lines : List (List ℕ)) (answers : List PlainAnswer) (exchanges : List Exchange) (read : ℕ) (t : PlainTerminal) (u : UnderWay) (act : Act) → StandsBy lines answers exchanges read t u → open_act u ≡ Some act
+    → (more : List ShelfReply) → (session_of lines answers (shelf_replies_in exchanges ++ more)).waits ≡ Some act
+open_waits lines answers exchanges read t under_way.Nothing act h is more = absurd (none-some act is)
+open_waits lines answers exchanges read t (under_way.Alone asked) act h is more = let w = alone_waiting lines answers exchanges read t asked h in w.waits more ∙ is
+open_waits lines answers exchanges read t (under_way.Asking b asked) act h is more = h.2.waiting.waits more ∙ is
+open_waits lines answers exchanges read t (under_way.Answered b) act h is more = absurd (none-some act is)
+open_waits lines answers exchanges read t (under_way.Commanding b asked) act h is more = let w = command_waiting lines answers exchanges read t b.value asked h.0 h.1 in w.waits more ∙ is
+open_waits lines answers exchanges read t (under_way.Commanded b) act h is more = absurd (none-some act is)
+
+-- how far a session is, and what it wants, where an act waits
+pub open_far : (u : UnderWay) → has_open_act u ≡ true → (stage_by (open_act u) ≡ stage.Waiting) × (need_by (open_act u) ≡ need.Answer)
+open_far under_way.Nothing is = absurd cc
+open_far (under_way.Alone asked) is = (refl, refl)
+open_far (under_way.Asking b asked) is = (refl, refl)
+open_far (under_way.Answered b) is = absurd cc
+open_far (under_way.Commanding b asked) is = (refl, refl)
+open_far (under_way.Commanded b) is = absurd cc
+
+-- and where none does
+pub closed_far : (u : UnderWay) → has_open_act u ≡ false → (stage_by (open_act u) ≡ stage.Finished) × (need_by (open_act u) ≡ need.Nothing)
+closed_far under_way.Nothing is = (refl, refl)
+closed_far (under_way.Alone asked) is = absurd cc
+closed_far (under_way.Asking b asked) is = absurd cc
+closed_far (under_way.Answered b) is = (refl, refl)
+closed_far (under_way.Commanding b asked) is = absurd cc
+closed_far (under_way.Commanded b) is = (refl, refl)
 
 -- a session that went on
 pub gone_on : (lines : List (List ℕ)) (answers : List PlainAnswer) (exchanges : List Exchange) (p : Progress) → SessionComesTo lines answers exchanges p

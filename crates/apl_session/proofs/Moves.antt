@@ -1,7 +1,7 @@
 -- From what the parts of a call promise to what the call does.
 use Rattle.std.proofs.Common.{◌≡◌, ℕ, ◌+◌, ◌-◌, ◌<◌, ◌≤◌, true, false, List, [], ◌∷◌, ◌++◌, drop, get_or, length, refl, sym, ap, subst, ◌∙◌, append-nil, arith}
 use Rattle.std.proofs.lemmas.List.{drop_more, get_or-map, length-map}
-use Rattle.std.specs.Prelude.{None, Err, map}
+use Rattle.std.specs.Prelude.{None, Err, IfOk, Ok, OnOk, Result, map}
 use Rattle.std.specs.Global.{Box}
 use Rattle.apl_arrays.specs.List.{Listed, glyphs_in}
 use Rattle.apl_arrays.specs.declared.report.Fail.{Fail}
@@ -215,6 +215,11 @@ command_there lines answers exchanges p b asked waits h = subst (λ (u : UnderWa
 
 pub may_hear_command : (count read : ℕ) (t : PlainTerminal) (u : UnderWay) (b : Box Errand) (asked : Act) → u ≡ under_way.Commanding b asked → IsOpenLine count read t u → CommandMayGoOn t b.value × IsFirstAct b.value t.workspace asked
 may_hear_command count read t u b asked waits h = subst (IsOpenLine count read t) waits h
+
+-- what holds of a value holds of an answer that is this value
+pub if_ok_at : {T E A B : Type 0} (r : Result T E) (t : T) (P : T → Type 0) → IfOk r (λ x. x ≡ t) → OnOk r A → OnOk r B → (A → B → P t) → IfOk r P
+if_ok_at (Ok x) t P is a b leads = subst P (sym is) (leads a b)
+if_ok_at (Err e) t P is a b leads = tt
 
 -- it was given its answer
 pub command_heard : (lines : List (List ℕ)) (answers : List PlainAnswer) (exchanges : List Exchange) (asked : Act) (answer : PlainAnswer) (b : Box Errand) (before after : Progress) → before.under_way ≡ under_way.Commanding b asked

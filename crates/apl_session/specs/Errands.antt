@@ -16,6 +16,7 @@ use Rattle.apl_session.specs.declared.errand.Phase.TheVariants as phase
 abbrev pub names_left : Errand → List (List ℕ)
 names_left errand = drop errand.retracted errand.todo.retract.items
 
+-- the offers that are still to be made
 abbrev pub offers_left : Errand → List Remake
 offers_left errand = drop errand.remade errand.todo.remakes.items
 
@@ -24,6 +25,7 @@ abbrev pub rest_in : Phase → Errand → Course → Course
 rest_in phase.Retracting errand = retracting (names_left errand) (change_made errand.line.items (plain_todo errand.todo))
 rest_in phase.Remaking errand = remaking (offers_left errand) (lines_told errand.line.items (plain_todo errand.todo))
 
+-- what is left to be done of a course
 abbrev pub errand_rest : Errand → Course → Course
 errand_rest errand = rest_in errand.phase errand
 
@@ -38,6 +40,7 @@ abbrev pub MayBeDoneIn : Phase → Errand → PlainWorkspace → Type 0
 MayBeDoneIn phase.Retracting errand w = MayChange (names_left errand) (plain_change errand.todo.change) errand.remade w
 MayBeDoneIn phase.Remaking errand w = Unit {0}
 
+-- what is left of an errand may be done on a workspace
 abbrev pub IsErrand : Errand → PlainWorkspace → Type 0
 IsErrand errand w = MayBeDoneIn errand.phase errand w
 
@@ -60,5 +63,6 @@ abbrev pub IsFirstIn : Phase → Errand → PlainWorkspace → Act → Type 0
 IsFirstIn phase.Retracting errand w asked = IsRetraction (names_left errand) asked
 IsFirstIn phase.Remaking errand w asked = IsOfferAgain (offers_left errand) w asked
 
+-- the act is the first that an errand asks
 abbrev pub IsFirstAct : Errand → PlainWorkspace → Act → Type 0
 IsFirstAct errand w asked = IsFirstIn errand.phase errand w asked

@@ -2,6 +2,8 @@
 use Rattle.std.specs.Prelude.{IsTrue, not, Option, Some, None}
 use Rattle.sv_events.specs.declared.event.Act.{Act}
 use Rattle.sv_rules.specs.Entries.{is_leave}
+use Rattle.apl_session.specs.declared.session.Need.{Need}
+use Rattle.apl_session.specs.declared.session.Need.TheVariants as need
 use Rattle.apl_session.specs.declared.session.SessionStage.{SessionStage}
 use Rattle.apl_session.specs.declared.session.SessionStage.TheVariants as stage
 use Rattle.apl_session.specs.declared.session.Wants.{Wants}
@@ -16,6 +18,11 @@ wanted wants.Finished = None
 abbrev pub IsOfPresent : Wants → Type 0
 IsOfPresent (wants.Act act) = IsTrue (not (is_leave act))
 IsOfPresent wants.Finished = Unit {0}
+
+-- what a session needs by the act that waits, if one does: its answer
+abbrev pub need_by : Option Act → Need
+need_by (Some act) = need.Answer
+need_by None = need.Nothing
 
 -- how far a session is that asks an act, or nothing more
 abbrev pub stage_by : Option Act → SessionStage

@@ -16,6 +16,6 @@ mod under_way;
 
 pub use outcome::{Ended, FinishedRun, RunOf};
 pub use receipts::{Receipt, Receipts};
-pub use session::{Session, SessionParts, SessionStage, Wants};
+pub use session::{Need, Session, SessionParts, SessionStage, Wants};
 pub use threads::sessions_may_cross_threads;
 pub use transcripts::{Transcript, Transcripts};

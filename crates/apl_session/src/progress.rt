@@ -1,11 +1,14 @@
-ghost use Rattle.std.specs.Prelude.{◌≡◌, ◌||◌, ℕ, List, IfOk, IsOk, OnOk, length, map};
+ghost use Rattle.std.specs.Prelude.{◌≡◌, ◌||◌, ◌∷◌, [], ◌++◌, ℕ, List, IfOk, IsOk, OnOk, length, map};
+ghost use Rattle.std.specs.Option.{option_copied};
 ghost use Rattle.apl_arrays.specs.List.{glyphs_in};
 ghost use Rattle.sv_events.specs.Answer.{PlainAnswer, plain_answer};
 ghost use Rattle.apl_terminal.specs.Terminal.{new_terminal};
 ghost use Rattle.apl_machine.specs.Machine.{IsOpenStage};
 ghost use Rattle.session_rules.specs.Shelf.{Exchange};
-ghost use Rattle.apl_session.specs.Standing.{SessionComesTo, IsAnswered, IsHanded, IsOpenLine, IsPaused, MayAdvance, StandsIn, WithCalls, has_open_act, open_act};
+ghost use Rattle.apl_session.specs.Errands.{IsFirstAct};
+ghost use Rattle.apl_session.specs.Standing.{CommandMayGoOn, IsCommanded, SessionComesTo, IsAnswered, IsHanded, IsOpenLine, IsPaused, MayAdvance, StandsIn, WithCalls, has_open_act, open_act};
 
+use crate::errand::Errand;
 use crate::spare::Spare;
 use crate::under_way::UnderWay;
 use apl_arrays::{Line, LineList, WantOfMemory};
@@ -89,8 +92,8 @@ impl Progress {
         self.has_open_act() || self.terminal.has_ended()
     }
 
-    // Whether an act waits for its answer.
-    fn has_open_act(&self) -> bool
+    /// Whether an act waits for its answer.
+    pub(crate) fn has_open_act(&self) -> bool
         ensures { result ≡ has_open_act self.now.under_way }
     {
         matches!(
@@ -99,15 +102,15 @@ impl Progress {
         )
     }
 
-    /// The act that waits for its answer, if one does. It takes memory for its value.
-    pub fn open_act(&self) -> Result<Option<Act>, WantOfMemory>
-        ensures { IfOk result (λ asked. asked ≡ open_act self.now.under_way) }
+    /// The act that waits for its answer, if one does.
+    pub fn open_act(&self) -> Option<&Act>
+        ensures { option_copied result ≡ open_act self.now.under_way }
     {
         match &self.under_way {
-            UnderWay::Asking(_, act) => Ok(Some(act.copy(self.alloc)?)),
-            UnderWay::Alone(act) => Ok(Some(act.copy(self.alloc)?)),
-            UnderWay::Commanding(_, act) => Ok(Some(act.copy(self.alloc)?)),
-            _ => Ok(None),
+            UnderWay::Alone(act) => Some(act),
+            UnderWay::Asking(_, act) => Some(act),
+            UnderWay::Commanding(_, act) => Some(act),
+            _ => None,
         }
     }
 
@@ -133,18 +136,36 @@ impl Progress {
                     Err(WantOfMemory)
                 }
             },
-            UnderWay::Commanding(errand, act) => {
-                match self.hear_command(Box::into_inner(errand), &act, answer) {
-                    Ok(()) => Ok(act),
-                    Err(WantOfMemory) => {
-                        drop(act);
-                        Err(WantOfMemory)
-                    }
-                }
-            }
+            UnderWay::Commanding(errand, act) => self.answer_command(errand, act, answer),
             other => {
                 drop(other);
                 drop(answer);
+                Err(WantOfMemory)
+            }
+        }
+    }
+
+    // Does what the answer to the act of a command does, and gives back the act. It takes memory for an offer, and for what is
+    // printed.
+    fn answer_command(
+        &mut self,
+        errand: Box<Errand>,
+        act: Act,
+        answer: Answer,
+    ) -> Result<Act, WantOfMemory>
+        requires none { self.old.under_way ≡ UnderWay.Nothing }
+        requires may { CommandMayGoOn self.old.terminal errand.value }
+        requires first { IsFirstAct errand.value self.old.terminal.workspace act }
+        ensures act { IfOk result (λ given. given ≡ act) }
+        ensures heard { OnOk result ((lines : List (List ℕ)) (answers : List PlainAnswer) (exchanges : List Exchange)
+            → IsCommanded lines answers exchanges self.old.read self.old.terminal errand.value
+            → StandsIn lines (answers ++ plain_answer answer ∷ []) exchanges self.new) }
+        ensures may { OnOk result (MayAdvance self.new.terminal self.new.under_way) }
+    {
+        match self.hear_command(Box::into_inner(errand), &act, answer) {
+            Ok(()) => Ok(act),
+            Err(WantOfMemory) => {
+                drop(act);
                 Err(WantOfMemory)
             }
         }

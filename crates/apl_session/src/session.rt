@@ -1,12 +1,14 @@
-ghost use Rattle.std.specs.Prelude.{◌≡◌, ◌<◌, ◌∷◌, [], ◌++◌, List, IfOk, IsErr, OnErr, OnOk, map};
+ghost use Rattle.std.specs.Prelude.{◌≡◌, ◌<◌, ◌∷◌, [], ◌++◌, ◌≢◌, List, IfOk, IfSome, IsErr, IsTrue, OnErr, OnOk, map, not};
 ghost use Rattle.apl_arrays.specs.List.{glyphs_in};
 ghost use Rattle.sv_events.specs.Answer.{PlainAnswer, plain_answer};
 ghost use Rattle.session_rules.specs.Session.{session_of};
 ghost use Rattle.session_rules.specs.Shelf.{Exchange, ShelfReply, shelf_replies_in};
-ghost use Rattle.apl_session.specs.PlainSession.{GoesTo, HasCome};
+ghost use Rattle.apl_session.specs.PlainSession.{GoesTo, HasCome, asked};
 ghost use Rattle.apl_session.specs.Receipts.{acts_in, answers_in, plain_receipt};
 ghost use Rattle.apl_session.specs.Standing.{SessionComesTo, MayAdvance, StandsIn, WithCalls};
-ghost use Rattle.apl_session.specs.Wants.{HasHeardAll, IsOfPresent, MayGoOn, stage_by, wanted};
+ghost use Rattle.apl_session.specs.Wants.{HasHeardAll, IsOfPresent, MayGoOn, need_by, stage_by, wanted};
+ghost use Rattle.sv_rules.specs.Entries.{is_leave};
+ghost use Rattle.std.specs.Option.{option_copied};
 
 use crate::progress::Progress;
 use crate::receipts::{Receipt, Receipts};
@@ -25,6 +27,15 @@ pub enum Wants {
     Act(Act),
     /// Nothing more.
     Finished,
+}
+
+/// What a session that went on needs before it goes on further.
+#[derive(Clone, Copy, Debug, PartialEq, Eq)]
+pub enum Need {
+    /// The answer to its act.
+    Answer,
+    /// Nothing: its lines are done.
+    Nothing,
 }
 
 /// How far a session is.
@@ -105,15 +116,52 @@ impl<K: Shelf> Session<K> {
         self.stage
     }
 
-    /// Goes on to the next act, or to the end of the lines; a definition that is open there is dropped. Commands call the shelf
-    /// with the number of the user. It takes the memory of what is evaluated and printed. After `WantOfMemory` the session has
-    /// failed, and answers it for good.
+    /// Goes on to the next act, or to the end of the lines, and gives a copy of the act; a definition that is open there is
+    /// dropped. Commands call the shelf with the number of the user. It takes the memory of what is evaluated and printed, and of
+    /// the copy. After `WantOfMemory` the session has failed, and answers it for good.
     pub fn next(&mut self) -> Result<Wants, WantOfMemory>
         requires { MayGoOn self.old.stage }
-        ensures goes { IfOk result (λ wants. (lent : K) (exchanges : List Exchange) → HasCome K.told K.faults lent exchanges self.old → GoesTo K.told K.faults lent exchanges wants self.new) }
+        ensures goes { OnOk result ((lent : K) (exchanges : List Exchange) → HasCome K.told K.faults lent exchanges self.old → GoesTo K.told K.faults lent exchanges self.new) }
         ensures same { self.new ≡ record self.old { stage = self.new.stage; shelf = self.new.shelf; inside = self.new.inside } }
+        ensures wants { IfOk result (λ wants. wanted wants ≡ asked self.new) }
         ensures stage { IfOk result (λ wants. self.new.stage ≡ stage_by (wanted wants)) }
         ensures present { IfOk result IsOfPresent }
+        ensures err { OnErr result (self.new.stage ≡ SessionStage.Failed) }
+        ensures for_good { self.old.stage ≡ SessionStage.Failed → IsErr result }
+    {
+        match self.go_on()? {
+            Need::Nothing => Ok(Wants::Finished),
+            Need::Answer => self.copied_act(),
+        }
+    }
+
+    // A copy of the act that waits for its answer, for the driver. After `WantOfMemory` the session has failed.
+    fn copied_act(&mut self) -> Result<Wants, WantOfMemory>
+        requires { self.old.stage ≡ SessionStage.Waiting }
+        ensures wants { IfOk result (λ wants. wanted wants ≡ asked self.new) }
+        ensures same { OnOk result (self.new ≡ self.old) }
+        ensures present { IfOk result IsOfPresent }
+        ensures failed { OnErr result (self.new ≡ record self.old { stage = SessionStage.Failed }) }
+    {
+        match self.act() {
+            None => Ok(Wants::Finished),
+            Some(act) => match act.copy(self.alloc) {
+                Ok(act) => Ok(Wants::Act(act)),
+                Err(WantOfMemory) => {
+                    self.stage = SessionStage::Failed;
+                    Err(WantOfMemory)
+                }
+            },
+        }
+    }
+
+    /// The same with no copy: `act` gives the act that waits then.
+    pub fn go_on(&mut self) -> Result<Need, WantOfMemory>
+        requires { MayGoOn self.old.stage }
+        ensures goes { OnOk result ((lent : K) (exchanges : List Exchange) → HasCome K.told K.faults lent exchanges self.old → GoesTo K.told K.faults lent exchanges self.new) }
+        ensures same { self.new ≡ record self.old { stage = self.new.stage; shelf = self.new.shelf; inside = self.new.inside } }
+        ensures need { IfOk result (λ need. need ≡ need_by (asked self.new)) }
+        ensures stage { OnOk result (self.new.stage ≡ stage_by (asked self.new)) }
         ensures err { OnErr result (self.new.stage ≡ SessionStage.Failed) }
         ensures for_good { self.old.stage ≡ SessionStage.Failed → IsErr result }
     {
@@ -128,16 +176,21 @@ impl<K: Shelf> Session<K> {
             &mut self.shelf,
             Blank::new(1),
         )?;
-        match self.progress.open_act()? {
-            Some(act) => {
-                self.stage = SessionStage::Waiting;
-                Ok(Wants::Act(act))
-            }
-            None => {
-                self.stage = SessionStage::Finished;
-                Ok(Wants::Finished)
-            }
+        if self.progress.has_open_act() {
+            self.stage = SessionStage::Waiting;
+            Ok(Need::Answer)
+        } else {
+            self.stage = SessionStage::Finished;
+            Ok(Need::Nothing)
         }
+    }
+
+    /// The act that waits for its answer, if one does; it is no leave.
+    pub fn act(&self) -> Option<&Act>
+        ensures act { option_copied result ≡ asked self.now }
+        ensures present { self.now.stage ≢ SessionStage.Failed → IfSome (option_copied result) (λ act. IsTrue (not (is_leave act))) }
+    {
+        self.progress.open_act()
     }
 
     /// Gives the answer to the act that waits. A line that is this act alone is done then, and so is what the answer does for a

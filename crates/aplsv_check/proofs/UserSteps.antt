@@ -3,7 +3,7 @@ use Rattle.std.proofs.Common.{◌≡◌, ℕ, ◌<◌, Bool, true, false, List, 
 use Rattle.std.proofs.lemmas.Bool.{both_ways}
 use Rattle.std.specs.Prelude.{IsSome, if◌then◌else◌}
 use Rattle.apl_io.specs.Kept.{Keeper}
-use Rattle.apl_session.specs.PlainSession.{HasCome, PlainSession}
+use Rattle.apl_session.specs.PlainSession.{HasCome, PlainSession, asked}
 use Rattle.apl_session.specs.declared.session.SessionStage.TheVariants as stage
 use Rattle.aux_parties.specs.Auxiliaries.{is_auxiliary}
 use Rattle.bundle_devices.proofs.OwnDevices.{keeper_faults, told_by}
@@ -56,9 +56,15 @@ record IsAbout (journal : Entries) (earlier : List Exchange) (about : Intent) (s
 
 is_about : (journal : Entries) (exchanges : List Exchange) (about : Intent) (s between : PlainSession (Keeper (ℕ × List ℕ))) → Finds told_by keeper_faults s about between → HasCome told_by keeper_faults empty_shelf exchanges s
     → IsSessionSoFar journal exchanges s → (s.stage ≡ stage.Waiting → HasCalled exchanges s) → IsAbout journal exchanges about between
-is_about journal exchanges (intent.Make asked) s between finds come so called =
+is_about journal exchanges intent.Make s between finds come so called =
     let goes = finds.0.goes empty_shelf exchanges come in
-    record { more = goes.more; come = goes.come; ready = (finds.1, asks_on told_by keeper_faults journal empty_shelf exchanges s between asked finds.0.ready finds.0.same finds.0.answers so goes); called = goes.calls }
+    let own = some_of (asked between) finds.2 in
+    record {
+      more = goes.more;
+      come = goes.come;
+      ready = (finds.1, record { act = own.0; own = own.1; now = asks_on told_by keeper_faults journal empty_shelf exchanges s between own.0 own.1 finds.0.ready finds.0.same finds.0.answers so goes });
+      called = goes.calls;
+    }
 is_about journal exchanges intent.TryAgain s between finds come so called =
     subst (λ (t : PlainSession (Keeper (ℕ × List ℕ))). IsAbout journal exchanges intent.TryAgain t) (sym finds.1) (record { more = []; come = come; ready = (finds.0, so); called = called finds.0 })
 is_about journal exchanges intent.Leave s between finds come so called =
@@ -69,14 +75,14 @@ is_about journal exchanges intent.Leave s between finds come so called =
       ready = record {
         finished = finds.1;
         so_far = so_far_on told_by keeper_faults journal exchanges goes.more s between finds.0.ready finds.0.same finds.0.answers so;
-        asks = λ rest. sym (goes.waits rest);
+        asks = λ rest. sym (goes.waits rest) ∙ finds.2;
         calls = goes.calls;
       };
       called = goes.calls;
     }
 
 same_as : (s between : PlainSession (Keeper (ℕ × List ℕ))) (about : Intent) → Finds told_by keeper_faults s about between → IsSameUser s between
-same_as s between (intent.Make asked) finds = finds.0.same
+same_as s between intent.Make finds = finds.0.same
 same_as s between intent.TryAgain finds = subst (λ (t : PlainSession (Keeper (ℕ × List ℕ))). IsSameUser s t) (sym finds.1) refl
 same_as s between intent.Leave finds = finds.0.same
 
@@ -193,7 +199,7 @@ module _ (before after : PlainCore) (seat between_seat seat_then : UserSeat (Kee
         let found = made_by before.users before.journal player next there asks one.entry (turn before.users before.journal player) (turned ∙ one.journal) its_turn in
         let made : Act = found.0 in
         let is : Asks player made = elim found.1.why [
-          | inl asked ↦ asked
+          | inl wanted ↦ wanted
           | inr waits_for ↦ asks_waited before.journal player waiting made found.1.room so waits_for
         ] in
         let act_is : one.entry.act ≡ made = ap (λ (e : PlainEntry). e.act) found.1.is in
@@ -279,12 +285,13 @@ module _ (before after : PlainCore) (seat between_seat seat_then : UserSeat (Kee
 
   pub took_turn : (about : Intent) → Finds told_by keeper_faults s about b → ((exchanges : List Exchange) → IsReady before.journal exchanges about b → Brings before exchanges b about after answer)
       → (made : Bool) → IsOneIf made b.user before after → TookTurn user before seat made after seat_then
-  took_turn (intent.Make asked) finds brings made one =
-      let about = about_is (intent.Make asked) finds in
+  took_turn intent.Make finds brings made one =
+      let about = about_is intent.Make finds in
+      let asks = about.ready.1 in
       let exchanges : List Exchange = about.more ++ sits.sitting.exchanges in
       let further = brings exchanges about.ready in
-      went_on exchanges false asked (user_here (intent.Make asked) finds) (there (intent.Make asked) finds) about.come about.called (about.ready.1.so_far []) (about.ready.1.asks []) further.on
-      (goes_by told_by keeper_faults (intent.Make asked) before after s b now answer finds exchanges about.ready further session_is (same_now (intent.Make asked) finds)) made one
+      went_on exchanges false asks.act (user_here intent.Make finds) (there intent.Make finds) about.come about.called (asks.now.so_far []) (asks.now.asks []) further.on
+      (goes_by told_by keeper_faults intent.Make before after s b now answer finds exchanges about.ready further session_is (same_now intent.Make finds)) made one
   took_turn intent.TryAgain finds brings made one =
       let about = about_is intent.TryAgain finds in
       let exchanges : List Exchange = about.more ++ sits.sitting.exchanges in

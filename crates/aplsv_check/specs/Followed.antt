@@ -144,6 +144,7 @@ pub record IsWhereItWas (user : PlainUser) (before after : PlainCore) (now : Use
   pub seated : IsSeatOf before.journal user now
   pub none : is_full before.journal ≡ false → NoneIsNext user before
 
+-- some turns of a user that has not left: an entry was made behind them, or none
 abbrev pub TookTurns : PlainUser → PlainCore → Bool → PlainCore → UserSeat (Keeper (ℕ × List ℕ)) → Type 0
 TookTurns user before true after now = TurnedOn user before after now
 TookTurns user before false after now = IsWhereItWas user before after now
@@ -171,6 +172,7 @@ pub record UsersTurnedOn (party : ℕ) (users : List PlainUser) (before after : 
 abbrev pub NoneTurnsOn : ℕ → List PlainUser → PlainCore → Type 0
 NoneTurnsOn party users core = All (λ user. user.number ≡ party → NoneIsNext user core) users
 
+-- the turns of a party among users: one of them made the entry, or none of them makes one
 abbrev pub UsersTurned : ℕ → List PlainUser → PlainCore → Bool → PlainCore → List (UserSeat (Keeper (ℕ × List ℕ))) → Type 0
 UsersTurned party users before true after seats = UsersTurnedOn party users before after seats
 UsersTurned party users before false after seats = NoneTurnsOn party users before

@@ -49,8 +49,14 @@ left_since party known journal k = ap (λ (j : Entries). has_left j party) k.is 
 
 -- who may do something then may do it still
 ready_since : {K : Type 0} (since known : Entries) (exchanges : List Exchange) (about : Intent) (s : PlainSession K) → AreOthers s.user since → IsReady known exchanges about s → IsReady (since ++ known) exchanges about s
-ready_since since known exchanges (intent.Make asked) s others h =
-    (h.0, record { asks = h.1.asks; so_far = λ more. so_far_stays since known (participant_with (shelf_replies_in exchanges ++ more) s) false others (h.1.so_far more) })
+ready_since since known exchanges intent.Make s others h = (
+  h.0,
+  record {
+    act = h.1.act;
+    own = h.1.own;
+    now = record { asks = h.1.now.asks; so_far = λ more. so_far_stays since known (participant_with (shelf_replies_in exchanges ++ more) s) false others (h.1.now.so_far more) };
+  },
+)
 ready_since since known exchanges intent.TryAgain s others h = (h.0, λ more. so_far_stays since known (participant_with (shelf_replies_in exchanges ++ more) s) (is_waiting s.stage) others (h.1 more))
 ready_since since known exchanges intent.Leave s others h = record {
   finished = h.finished;

@@ -1,5 +1,6 @@
 -- The turns of a user's task.
-use Rattle.std.proofs.Common.{◌≡◌, ℕ, ◌+◌, ◌++◌, true, false, List, [], ◌∷◌, length, Option, sym, ap, ◌∙◌, subst, arith}
+use Rattle.std.proofs.Common.{◌≡◌, ℕ, ◌+◌, ◌++◌, true, false, List, [], ◌∷◌, length, Option, Some, None, sym, ap, ◌∙◌, subst, arith}
+use Rattle.std.specs.Prelude.{IfSome}
 use Rattle.std.proofs.lemmas.Bool.{both_ways}
 use Rattle.apl_io.specs.Content.{Told}
 use Rattle.sv_core.specs.Core.{PlainCore}
@@ -46,18 +47,25 @@ module _ {K : Type 0} (told : K → Option (Told (ℕ × List ℕ))) (faults : K
       let a = is_about told faults known lent far.exchanges about user.session then.session finds present.come present.so_far in
       record { exchanges = a.more ++ far.exchanges; come = a.come; ready = a.ready }
 
+  -- and is about to do it still, where room was made for it
+  pub with_room : (room : Type 0) (known : Entries) (lent : K) (user then : UserSeat K) (about : Intent) (result : Option Intent) → IsAboutTo told faults known lent user about → IfSome result (λ made. room × (made ≡ about) × (then ≡ user))
+      → IfSome result (λ made. room × IsAboutTo told faults known lent then made)
+  with_room room known lent user then about None is made = tt
+  with_room room known lent user then about (Some one) is made =
+      (made.0, subst (λ (i : Intent). IsAboutTo told faults known lent then i) (sym made.1) (subst (λ (u : UserSeat K). IsAboutTo told faults known lent u about) (sym made.2) is))
+
   -- ---- in the turn
 
   -- a user that goes on has not left
   pub goes_and_stays : (before after : PlainCore) (exchanges : List Exchange) (s : PlainSession K) (about : Intent) (answer : Option PlainAnswer) → goes_on about ≡ true → Brings before exchanges s about after answer → has_left after.journal s.user ≡ false
-  goes_and_stays before after exchanges s (intent.Make asked) answer goes brings = brings.on.stays
+  goes_and_stays before after exchanges s intent.Make answer goes brings = brings.on.stays
   goes_and_stays before after exchanges s intent.TryAgain answer goes brings = brings.stays
   goes_and_stays before after exchanges s intent.Leave answer goes brings = absurd (let no : false ≡ true = goes in cc)
 
   -- a user comes far by what it did, once it has heard
   pub will_come : (before after : PlainCore) (lent : K) (user : UserSeat K) (about : Intent) (answer : Option PlainAnswer) (h : IsAboutTo told faults before.journal lent user about) → Brings before h.exchanges user.session about after answer
       → WillHaveComeFar told faults after.journal lent user answer
-  will_come before after lent user (intent.Make asked) answer h brings = record {
+  will_come before after lent user intent.Make answer h brings = record {
     exchanges = h.exchanges;
     come = h.come;
     so_far = λ stays now. brings.on.so_far now;

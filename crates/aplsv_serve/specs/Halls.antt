@@ -13,6 +13,7 @@ use Rattle.aplsv_serve.specs.declared.hall.Hall.{Hall}
 abbrev pub Stile : Type 0
 Stile = Turnstile PlainCore PlainEntry
 
+-- the users of a processor behind its turnstile
 abbrev pub users_of_stile : Stile → List ℕ
 users_of_stile stile = start_members members_of stile
 

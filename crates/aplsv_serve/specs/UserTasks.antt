@@ -23,7 +23,7 @@ sitting_at lent user exchanges = record { seat = user; lent = lent; exchanges = 
 
 -- a user goes on by what it is about to do, and does not leave
 abbrev pub goes_on : Intent → Bool
-goes_on (intent.Make asked) = true
+goes_on intent.Make = true
 goes_on intent.TryAgain = true
 goes_on intent.Leave = false
 

@@ -37,7 +37,7 @@ fn goes_on(about: &Option<Intent>) -> bool
     match about {
         None => false,
         Some(intent) => match intent {
-            Intent::Make(_) => true,
+            Intent::Make => true,
             Intent::TryAgain => true,
             Intent::Leave => false,
         },
@@ -122,7 +122,6 @@ impl<K: Shelf> UserTask<K> {
         match self.seat.reserve() {
             Ok(()) => Some(intent),
             Err(_) => {
-                drop(intent);
                 self.user.is_lost = true;
                 None
             }

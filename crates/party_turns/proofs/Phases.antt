@@ -3,6 +3,7 @@ use Rattle.std.proofs.Common.{◌≡◌, ℕ, ◌+◌, ◌-◌, ◌<◌, ◌++�
 use Rattle.std.proofs.lemmas.List.Elements.{All-cons, All-nil}
 use Rattle.std.specs.Prelude.{IsOk, OnErr, count_by, option_map}
 use Rattle.apl_io.specs.Content.{Told}
+use Rattle.sv_core.proofs.RetryLemmas.{some_act}
 use Rattle.sv_core.specs.Core.{PlainCore, core_after}
 use Rattle.sv_events.specs.Answer.{PlainAnswer, plain_answer}
 use Rattle.sv_events.specs.Entry.{PlainEntry}
@@ -16,9 +17,8 @@ use Rattle.session_rules.specs.SessionLaws.{tells_full}
 use Rattle.session_rules.specs.Shelf.{Exchange, ShelfReply, shelf_replies_in}
 use Rattle.session_rules.specs.UserPart.{IsUserPart}
 use Rattle.replay_rules.proofs.SoFar.{left_on}
-use Rattle.apl_session.specs.PlainSession.{GoesTo, HasCome, PlainSession}
+use Rattle.apl_session.specs.PlainSession.{GoesTo, HasCome, PlainSession, asked}
 use Rattle.apl_session.specs.declared.session.SessionStage.TheVariants as stage
-use Rattle.apl_session.specs.declared.session.Wants.TheVariants as wants
 use Rattle.party_turns.specs.Entering.{Brings, Finds, IsAtEnd, IsOneIf, IsOneMore, IsReady, heard_if}
 use Rattle.party_turns.specs.Participants.{participant_with}
 use Rattle.party_turns.specs.SoFar.{GoesOn, GrowsBy, HasHeard, IsSameUser, IsSessionSoFar, TakesTurn, echoed_and_printed, user_of, work_with}
@@ -62,9 +62,14 @@ module _ {K : Type 0} (told : K → Option (Told (ℕ × List ℕ))) (faults : K
 
   pub is_about : (journal : Entries) (lent : K) (exchanges : List Exchange) (about : Intent) (s between : PlainSession K) → Finds told faults s about between → HasCome told faults lent exchanges s → IsSessionSoFar journal exchanges s
       → IsAbout journal lent exchanges about between
-  is_about journal lent exchanges (intent.Make asked) s between finds come so =
+  is_about journal lent exchanges intent.Make s between finds come so =
       let goes = finds.0.goes lent exchanges come in
-      record { more = goes.more; come = goes.come; ready = (finds.1, asks_on told faults journal lent exchanges s between asked finds.0.ready finds.0.same finds.0.answers so goes) }
+      let act = some_act (asked between) finds.2 in
+      record {
+        more = goes.more;
+        come = goes.come;
+        ready = (finds.1, record { act = act.0; own = act.1; now = asks_on told faults journal lent exchanges s between act.0 act.1 finds.0.ready finds.0.same finds.0.answers so goes });
+      }
   is_about journal lent exchanges intent.TryAgain s between finds come so =
       subst (λ (t : PlainSession K). IsAbout journal lent exchanges intent.TryAgain t) (sym finds.1) (record { more = []; come = come; ready = (finds.0, so) })
   is_about journal lent exchanges intent.Leave s between finds come so =
@@ -75,7 +80,7 @@ module _ {K : Type 0} (told : K → Option (Told (ℕ × List ℕ))) (faults : K
         ready = record {
           finished = finds.1;
           so_far = so_far_on told faults journal exchanges goes.more s between finds.0.ready finds.0.same finds.0.answers so;
-          asks = λ rest. sym (goes.waits rest);
+          asks = λ rest. sym (goes.waits rest) ∙ finds.2;
           calls = goes.calls;
         };
       }
@@ -88,10 +93,11 @@ module _ {K : Type 0} (told : K → Option (Told (ℕ × List ℕ))) (faults : K
     -- make a turn
     pub turned : (about : Intent) → Finds told faults seat.session about between → ((exchanges : List Exchange) → IsReady before.journal exchanges about between → Brings before exchanges between about after answer)
         → (exchanges : List Exchange) → IsReady before.journal exchanges about between → TakesTurn told faults before seat after seat_then
-    turned (intent.Make asked) finds brings some ready =
-        turned_on told faults before after seat seat_then present lost same between asked finds.0.ready finds.0.same finds.0.answers
+    turned intent.Make finds brings some ready =
+        let act = some_act (asked between) finds.2 in
+        turned_on told faults before after seat seat_then present lost same between act.0 act.1 finds.0.ready finds.0.same finds.0.answers
         (ap (λ (u : ℕ). has_left after.journal u) (sym (user_is seat.session between finds.0.same)) ∙ (brings some ready).on.stays) finds.0.goes
-        (λ lent exchanges come asks. heard_from told faults lent exchanges before after between seat_then.session answer (brings exchanges (finds.1, asks)).on (had lent exchanges come) hears)
+        (λ lent exchanges come asks. heard_from told faults lent exchanges before after between seat_then.session answer (brings exchanges (finds.1, record { act = act.0; own = act.1; now = asks })).on (had lent exchanges come) hears)
     turned intent.TryAgain finds brings some ready =
         let at : between.stage ≡ stage.Waiting = ap (λ (t : PlainSession K). t.stage) finds.1 ∙ finds.0 in
         turned_again told faults before after seat seat_then present lost same finds.0
@@ -104,9 +110,9 @@ module _ {K : Type 0} (told : K → Option (Told (ℕ × List ℕ))) (faults : K
     turned intent.Leave finds brings some ready =
         let gone = brings some ready in
         let here : seat_then.session ≡ between = hears ∙ ap (λ (o : Option PlainAnswer). heard_if o seat_then.session between) gone.1 in
-        turned_off told faults before after seat seat_then present lost same finds.0.ready (ap (λ (t : PlainSession K). t.answers) here ∙ finds.0.answers) (ap (λ (t : PlainSession K). t.stage) here ∙ finds.1)
+        turned_off told faults before after seat seat_then present lost same (ap asked here ∙ finds.2) finds.0.ready (ap (λ (t : PlainSession K). t.answers) here ∙ finds.0.answers) (ap (λ (t : PlainSession K). t.stage) here ∙ finds.1)
         (gone.0 ∙ ap (λ (u : ℕ). core_after before u Leave) (user_is seat.session between finds.0.same))
-        (λ lent exchanges come. subst (λ (t : PlainSession K). GoesTo told faults lent exchanges wants.Finished t) (sym here) (finds.0.goes lent exchanges come))
+        (λ lent exchanges come. subst (λ (t : PlainSession K). GoesTo told faults lent exchanges t) (sym here) (finds.0.goes lent exchanges come))
 
 -- ---- less is left to do
 
@@ -118,7 +124,7 @@ same_work {K = K} journal s now same answers =
 
 pub goes_by : {K : Type 0} (told : K → Option (Told (ℕ × List ℕ))) (faults : K → ℕ) (about : Intent) (before after : PlainCore) (s between now : PlainSession K) (answer : Option PlainAnswer) → Finds told faults s about between
     → (exchanges : List Exchange) → IsReady before.journal exchanges about between → Brings before exchanges between about after answer → now ≡ heard_if answer now between → IsSameUser s now → GoesOn before s after now
-goes_by {K = K} told faults (intent.Make asked) before after s between now answer finds exchanges ready brings hears same =
+goes_by {K = K} told faults intent.Make before after s between now answer finds exchanges ready brings hears same =
     λ stays. inl (subst₂ (λ (t : PlainSession K) (most : ℕ). work_with after.journal t < most) (sym hears) (same_work before.journal s between finds.0.same finds.0.answers) (brings.less now))
 goes_by {K = K} told faults intent.TryAgain before after s between now answer finds exchanges ready brings hears same =
     subst₂ (λ (t u : PlainSession K). GoesOn before t after u) finds.1 (sym hears) (brings.goes_on now)
@@ -151,6 +157,6 @@ no_answer (Some answer) is = absurd cc
 pub unheard_stays : {K E : Type 0} (heard : Result (Unit {0}) E) (about : Intent) (exchanges : List Exchange) (before after : PlainCore) (s : PlainSession K) (answer : Option Answer) → Brings before exchanges s about after (option_map plain_answer answer) → (answer ≡ None → IsOk heard)
     → OnErr heard (has_left after.journal s.user ≡ false)
 unheard_stays (Ok u) about exchanges before after s answer brings none = tt
-unheard_stays (Err e) (intent.Make asked) exchanges before after s answer brings none = brings.on.stays
+unheard_stays (Err e) intent.Make exchanges before after s answer brings none = brings.on.stays
 unheard_stays (Err e) intent.TryAgain exchanges before after s answer brings none = brings.stays
 unheard_stays {E = E} (Err e) intent.Leave exchanges before after s answer brings none = absurd (let no : IsOk {T = Unit {0}} {E = E} (Err e) = none (no_answer answer brings.1) in cc)

@@ -1,5 +1,5 @@
 -- A user's turn, from where it sat to where it sits.
-use Rattle.std.proofs.Common.{◌≡◌, ◌≢◌, ℕ, ◌++◌, ◌∷◌, inl, true, false, List, [], Option, None, refl, sym, ap, ◌∙◌, subst, subst₂, append-nil, append_assoc}
+use Rattle.std.proofs.Common.{◌≡◌, ◌≢◌, ℕ, ◌++◌, ◌∷◌, inl, true, false, List, [], Option, None, Some, refl, sym, ap, ◌∙◌, subst, subst₂, append-nil, append_assoc}
 use Rattle.std.proofs.lemmas.Bool.{both_ways}
 use Rattle.apl_io.specs.Content.{Told}
 use Rattle.sv_events.specs.Answer.{PlainAnswer}
@@ -16,10 +16,9 @@ use Rattle.session_rules.proofs.Shelves.{replies_behind}
 use Rattle.replay_rules.specs.SoFar.{IsSoFar}
 use Rattle.replay_rules.specs.Turns.{Participant, AfterTurn, turn}
 use Rattle.replay_rules.proofs.SoFar.{left_on}
-use Rattle.apl_session.specs.PlainSession.{GoesTo, HasCome, PlainSession}
+use Rattle.apl_session.specs.PlainSession.{GoesTo, HasCome, PlainSession, asked}
 use Rattle.apl_session.specs.declared.session.SessionStage.{SessionStage}
 use Rattle.apl_session.specs.declared.session.SessionStage.TheVariants as stage
-use Rattle.apl_session.specs.declared.session.Wants.TheVariants as wants
 use Rattle.party_turns.specs.Participants.{participant_with}
 use Rattle.party_turns.specs.SoFar.{AsksNow, HasHeard, HasTurned, IsOneSeated, SittingIsPresent, IsSameUser, IsSessionSoFar, IsTurn, IsUserSoFar, TakesTurn, TriesAgain, echoed_and_printed, is_waiting, user_of}
 use Rattle.party_turns.specs.Sittings.{ExchangesFollow, Sitting}
@@ -70,9 +69,9 @@ module _ {K : Type 0} (told : K → Option (Told (ℕ × List ℕ))) (faults : K
       same_person (shelf_replies_in (more ++ exchanges) ++ rest) s now same answers ∙ ap (λ (r : List ShelfReply). participant_with r s) replies in
       subst (λ (p : Participant). IsSoFar journal p false) (sym user) (subst (λ w. IsSoFar journal (participant_with (shelf_replies_in exchanges ++ (shelf_replies_in more ++ rest)) s) w) ready (so (shelf_replies_in more ++ rest)))
 
-  pub asks_on : (journal : Entries) (lent : K) (exchanges : List Exchange) (s now : PlainSession K) (act : Act) → is_waiting s.stage ≡ false → IsSameUser s now → now.answers ≡ s.answers → IsSessionSoFar journal exchanges s
-      → (goes : GoesTo told faults lent exchanges (wants.Act act) now) → AsksNow journal (goes.more ++ exchanges) act now
-  asks_on journal lent exchanges s now act ready same answers so goes = record { asks = λ rest. sym (goes.waits rest); so_far = so_far_on journal exchanges goes.more s now ready same answers so }
+  pub asks_on : (journal : Entries) (lent : K) (exchanges : List Exchange) (s now : PlainSession K) (act : Act) → asked now ≡ Some act → is_waiting s.stage ≡ false → IsSameUser s now → now.answers ≡ s.answers → IsSessionSoFar journal exchanges s
+      → (goes : GoesTo told faults lent exchanges now) → AsksNow journal (goes.more ++ exchanges) act now
+  asks_on journal lent exchanges s now act own ready same answers so goes = record { asks = λ rest. sym (goes.waits rest) ∙ own; so_far = so_far_on journal exchanges goes.more s now ready same answers so }
 
   -- a user that sat somewhere has heard an answer
   pub turned_by : (before after : PlainCore) (sitting : Sitting K) (seat : UserSeat K) (more : List Exchange) → seat.is_lost ≡ false → IsSameUser sitting.seat.session seat.session → HasCome told faults sitting.lent (more ++ sitting.exchanges) seat.session → has_left after.journal sitting.seat.session.user ≡ false
@@ -92,10 +91,10 @@ module _ {K : Type 0} (told : K → Option (Told (ℕ × List ℕ))) (faults : K
       )
 
   -- or it has left where its lines were done
-  pub turned_away : (before after : PlainCore) (sitting : Sitting K) (seat : UserSeat K) (goes : GoesTo told faults sitting.lent sitting.exchanges wants.Finished seat.session) → IsSameUser sitting.seat.session seat.session → seat.session.answers ≡ sitting.seat.session.answers
+  pub turned_away : (before after : PlainCore) (sitting : Sitting K) (seat : UserSeat K) (goes : GoesTo told faults sitting.lent sitting.exchanges seat.session) → asked seat.session ≡ None → IsSameUser sitting.seat.session seat.session → seat.session.answers ≡ sitting.seat.session.answers
       → seat.session.stage ≡ stage.Finished → is_waiting sitting.seat.session.stage ≡ false → has_left before.journal sitting.seat.session.user ≡ false → IsSessionSoFar before.journal sitting.exchanges sitting.seat.session → after ≡ core_after before sitting.seat.session.user Leave
       → (now : Sitting K) × (now.seat ≡ seat) × HasTurned told faults before sitting after now
-  turned_away before after sitting seat goes same answers over ready stays so became =
+  turned_away before after sitting seat goes none same answers over ready stays so became =
       let s : PlainSession K = sitting.seat.session in
       let t : PlainSession K = seat.session in
       let all : List Exchange = goes.more ++ sitting.exchanges in
@@ -103,7 +102,7 @@ module _ {K : Type 0} (told : K → Option (Told (ℕ × List ℕ))) (faults : K
       let user : t.user ≡ s.user = ap (λ (u : PlainSession K). u.user) same in
       let left : has_left after.journal t.user ≡ true = ap (λ (u : ℕ). has_left after.journal u) user ∙ has_left_now before after s.user became in
       let far : IsUserSoFar before.journal all false t = so_far_on before.journal sitting.exchanges goes.more s t ready same answers so in
-      let waits_none : (rest : List ShelfReply) → (session_of t.lines t.answers (shelf_replies_in all ++ rest)).waits ≡ None = λ rest. sym (goes.waits rest) in
+      let waits_none : (rest : List ShelfReply) → (session_of t.lines t.answers (shelf_replies_in all ++ rest)).waits ≡ None = λ rest. sym (goes.waits rest) ∙ none in
       let part : IsUserPart (entry_for before.journal t.user Leave ∷ before.journal) (user_of t) all (session_of t.lines t.answers (shelf_replies_in all ++ [])).terminal.transcript =
       left_on before.journal (participant_with (shelf_replies_in all ++ []) t) false all (entry_for before.journal t.user Leave) (far []) refl refl (waits_none []) (append-nil (shelf_replies_in all)) (goes.calls []) in
       let here : IsUserPart after.journal (user_of t) all (echoed_and_printed all t) =
@@ -139,22 +138,22 @@ module _ {K : Type 0} (told : K → Option (Told (ℕ × List ℕ))) (faults : K
       turned_by told faults before after (record { seat = seat; lent = lent; exchanges = exchanges }) seat_then [] (lost ∙ p.here) same h.come present h.so_far h.turn)
 
   -- a session went on to an act, which was made
-  pub turned_on : (between : PlainSession K) (act : Act) → is_waiting seat.session.stage ≡ false → IsSameUser seat.session between → between.answers ≡ seat.session.answers → has_left after.journal seat.session.user ≡ false
-      → ((lent : K) (exchanges : List Exchange) → HasCome told faults lent exchanges seat.session → GoesTo told faults lent exchanges (wants.Act act) between)
+  pub turned_on : (between : PlainSession K) (act : Act) → asked between ≡ Some act → is_waiting seat.session.stage ≡ false → IsSameUser seat.session between → between.answers ≡ seat.session.answers → has_left after.journal seat.session.user ≡ false
+      → ((lent : K) (exchanges : List Exchange) → HasCome told faults lent exchanges seat.session → GoesTo told faults lent exchanges between)
       → ((lent : K) (exchanges : List Exchange) → HasCome told faults lent exchanges between → AsksNow before.journal exchanges act between → HasHeard told faults lent exchanges before between after seat_then.session)
       → TakesTurn told faults before seat after seat_then
-  turned_on between act ready on answers present goes heard = from_seat (λ lent exchanges p.
+  turned_on between act own ready on answers present goes heard = from_seat (λ lent exchanges p.
       let g = goes lent exchanges p.come in
-      let h = heard lent (g.more ++ exchanges) g.come (asks_on told faults before.journal lent exchanges seat.session between act ready on answers p.so_far g) in
+      let h = heard lent (g.more ++ exchanges) g.come (asks_on told faults before.journal lent exchanges seat.session between act own ready on answers p.so_far g) in
       turned_by told faults before after (record { seat = seat; lent = lent; exchanges = exchanges }) seat_then g.more (lost ∙ p.here) same h.come present h.so_far (λ rest.
       ap (λ (user : Participant). turn before.users before.journal user) (sym (same_person (shelf_replies_in (g.more ++ exchanges) ++ rest) seat.session between on answers)) ∙ h.turn rest))
 
   -- or to the end of its lines, and left
-  pub turned_off : is_waiting seat.session.stage ≡ false → seat_then.session.answers ≡ seat.session.answers → seat_then.session.stage ≡ stage.Finished → after ≡ core_after before seat.session.user Leave
-      → ((lent : K) (exchanges : List Exchange) → HasCome told faults lent exchanges seat.session → GoesTo told faults lent exchanges wants.Finished seat_then.session)
+  pub turned_off : asked seat_then.session ≡ None → is_waiting seat.session.stage ≡ false → seat_then.session.answers ≡ seat.session.answers → seat_then.session.stage ≡ stage.Finished → after ≡ core_after before seat.session.user Leave
+      → ((lent : K) (exchanges : List Exchange) → HasCome told faults lent exchanges seat.session → GoesTo told faults lent exchanges seat_then.session)
       → TakesTurn told faults before seat after seat_then
-  turned_off ready answers over became goes = from_seat (λ lent exchanges p.
-      turned_away told faults before after (record { seat = seat; lent = lent; exchanges = exchanges }) seat_then (goes lent exchanges p.come) same answers over ready stays p.so_far became)
+  turned_off none ready answers over became goes = from_seat (λ lent exchanges p.
+      turned_away told faults before after (record { seat = seat; lent = lent; exchanges = exchanges }) seat_then (goes lent exchanges p.come) none same answers over ready stays p.so_far became)
 
 -- a session that went on is the same user's
 pub same_by_next : {K : Type 0} (s now : PlainSession K) → now ≡ record s { stage = now.stage; shelf = now.shelf; inside = now.inside } → IsSameUser s now

@@ -1,17 +1,16 @@
 -- A user's turn in three parts: what is done before it, in it and behind it.
-use Rattle.std.specs.Prelude.{◌≡◌, ◌++◌, ◌<◌, ◌∷◌, ℕ, Bool, true, false, List, Option, Some, None}
+use Rattle.std.specs.Prelude.{◌≡◌, ◌++◌, ◌<◌, ◌∷◌, ℕ, Bool, true, false, List, IsSome, Option, Some, None}
 use Rattle.apl_io.specs.Content.{Told}
 use Rattle.sv_core.specs.Core.{PlainCore, core_after}
 use Rattle.sv_events.specs.Answer.{PlainAnswer}
 use Rattle.sv_events.specs.Entry.{PlainEntry}
+use Rattle.sv_events.specs.declared.event.Act.{Act}
 use Rattle.sv_events.specs.declared.event.Act.TheVariants as act
 use Rattle.sv_rules.specs.Entries.{Entries, has_left}
 use Rattle.session_rules.specs.Session.{session_of}
 use Rattle.session_rules.specs.Shelf.{Exchange, ShelfReply, shelf_replies_in}
-use Rattle.apl_session.specs.PlainSession.{GoesTo, HasCome, PlainSession}
+use Rattle.apl_session.specs.PlainSession.{GoesTo, HasCome, PlainSession, asked}
 use Rattle.apl_session.specs.declared.session.SessionStage.TheVariants as stage
-use Rattle.apl_session.specs.declared.session.Wants.{Wants}
-use Rattle.apl_session.specs.declared.session.Wants.TheVariants as wants
 use Rattle.replay_rules.specs.Turns.{turn}
 use Rattle.party_turns.specs.Participants.{participant_with}
 use Rattle.party_turns.specs.SoFar.{AsksNow, GoesOn, IsSameUser, IsSessionSoFar, IsUserSoFar, heard, is_waiting, work_with}
@@ -44,9 +43,15 @@ pub record IsAtEnd {K : Type 0} (journal : Entries) (exchanges : List Exchange) 
   pub asks : (more : List ShelfReply) → (session_of s.lines s.answers (shelf_replies_in exchanges ++ more)).waits ≡ None
   pub calls : (more : List ShelfReply) → (session_of s.lines s.answers (shelf_replies_in exchanges ++ more)).exchanges ≡ exchanges
 
+-- a session asks the act that waits in it, and its user is so far but for it
+pub record AsksOwn {K : Type 0} (journal : Entries) (exchanges : List Exchange) (s : PlainSession K) : Type 0 where
+  pub act : Act
+  pub own : asked s ≡ Some act
+  pub now : AsksNow journal exchanges act s
+
 -- a user may do what it is about to do
 abbrev pub IsReady : {K : Type 0} → Entries → List Exchange → Intent → PlainSession K → Type 0
-IsReady journal exchanges (intent.Make asked) s = (s.stage ≡ stage.Waiting) × AsksNow journal exchanges asked s
+IsReady journal exchanges intent.Make s = (s.stage ≡ stage.Waiting) × AsksOwn journal exchanges s
 IsReady journal exchanges intent.TryAgain s = (s.stage ≡ stage.Waiting) × IsSessionSoFar journal exchanges s
 IsReady journal exchanges intent.Leave s = IsAtEnd journal exchanges s
 
@@ -64,7 +69,7 @@ pub record BringsFurther {K : Type 0} (before : PlainCore) (exchanges : List Exc
 
 -- what becomes of a user by what it did
 abbrev pub Brings : {K : Type 0} → PlainCore → List Exchange → PlainSession K → Intent → PlainCore → Option PlainAnswer → Type 0
-Brings before exchanges s (intent.Make asked) after answer = BringsFurther before exchanges s after answer
+Brings before exchanges s intent.Make after answer = BringsFurther before exchanges s after answer
 Brings before exchanges s intent.TryAgain after answer = BringsOn before exchanges s after answer
 Brings before exchanges s intent.Leave after answer = (after ≡ core_after before s.user act.Leave) × (answer ≡ None)
 
@@ -72,14 +77,14 @@ Brings before exchanges s intent.Leave after answer = (after ≡ core_after befo
 
 module _ {K : Type 0} (told : K → Option (Told (ℕ × List ℕ))) (faults : K → ℕ) where
   -- a session that waited for no answer went on to what it asks
-  pub record WentTo (asked : Wants) (s now : PlainSession K) : Type 0 where
+  pub record WentOn (s now : PlainSession K) : Type 0 where
     pub ready : is_waiting s.stage ≡ false
     pub same : IsSameUser s now
     pub answers : now.answers ≡ s.answers
-    pub goes : (lent : K) (exchanges : List Exchange) → HasCome told faults lent exchanges s → GoesTo told faults lent exchanges asked now
+    pub goes : (lent : K) (exchanges : List Exchange) → HasCome told faults lent exchanges s → GoesTo told faults lent exchanges now
 
   -- a user found what it is about to do: what its session asks, or to try again
   abbrev pub Finds : PlainSession K → Intent → PlainSession K → Type 0
-  Finds s (intent.Make asked) now = WentTo (wants.Act asked) s now × (now.stage ≡ stage.Waiting)
+  Finds s intent.Make now = WentOn s now × (now.stage ≡ stage.Waiting) × IsSome (asked now)
   Finds s intent.TryAgain now = (s.stage ≡ stage.Waiting) × (now ≡ s)
-  Finds s intent.Leave now = WentTo wants.Finished s now × (now.stage ≡ stage.Finished)
+  Finds s intent.Leave now = WentOn s now × (now.stage ≡ stage.Finished) × (asked now ≡ None)

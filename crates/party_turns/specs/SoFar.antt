@@ -39,6 +39,7 @@ is_waiting stage.Failed = false
 abbrev pub IsUserSoFar : {K : Type 0} → Entries → List Exchange → Bool → PlainSession K → Type 0
 IsUserSoFar journal exchanges waiting s = (more : List ShelfReply) → IsSoFar journal (participant_with (shelf_replies_in exchanges ++ more) s) waiting
 
+-- a user is as far as its session says
 abbrev pub IsSessionSoFar : {K : Type 0} → Entries → List Exchange → PlainSession K → Type 0
 IsSessionSoFar journal exchanges s = IsUserSoFar journal exchanges (is_waiting s.stage) s
 
@@ -97,6 +98,7 @@ module _ {K : Type 0} (told : K → Option (Told (ℕ × List ℕ))) (faults : K
     pub come : HasCome told faults sitting.lent sitting.exchanges sitting.seat.session
     pub part : IsUserPart journal (user_of sitting.seat.session) sitting.exchanges (echoed_and_printed sitting.exchanges sitting.seat.session)
 
+  -- a user that has left has its part
   abbrev pub SittingIsWhole : Entries → Sitting K → Type 0
   SittingIsWhole journal sitting = has_left journal sitting.seat.session.user ≡ true → HasPart journal sitting
 

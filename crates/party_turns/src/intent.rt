@@ -1,10 +1,10 @@
-use sv_events::{Act, Answer};
+use sv_events::Answer;
 
 /// What a user does at its next turn.
-#[derive(Debug, Drop)]
+#[derive(Clone, Copy, Debug, PartialEq, Eq)]
 pub enum Intent {
-    /// It makes an act.
-    Make(Act),
+    /// It makes the act of its session.
+    Make,
     /// It tries the act again that it waits for.
     TryAgain,
     /// It leaves, since its lines are done.

@@ -6,13 +6,13 @@ ghost use Rattle.sv_events.specs.Answer.{plain_answer};
 ghost use Rattle.sv_rules.specs.Refused.{waits};
 ghost use Rattle.session_rules.specs.Shelf.{Exchange};
 ghost use Rattle.apl_session.specs.PlainSession.{HasCome};
-ghost use Rattle.party_turns.specs.Entering.{Brings, BringsFurther, BringsOn, Finds, IsOneIf, IsReady, heard_if};
+ghost use Rattle.party_turns.specs.Entering.{AsksOwn, Brings, BringsFurther, BringsOn, Finds, IsOneIf, IsReady, heard_if};
 ghost use Rattle.party_turns.specs.SoFar.{AsksNow, GoesOn, GrowsBy, IsOneSeated, IsSameUser, TakesTurn, TriesAgain, heard};
 
 use crate::{Intent, TurnResult};
 use apl_arrays::WantOfMemory;
 use apl_io::Shelf;
-use apl_session::{Session, SessionStage, Wants};
+use apl_session::{Need, Session, SessionStage};
 use sv_core::Core;
 use sv_events::{Act, Answer, Retry};
 
@@ -98,9 +98,9 @@ impl<K: Shelf> UserSeat<K> {
         if self.session.stage() == SessionStage::Waiting {
             return Ok(Intent::TryAgain);
         }
-        match self.session.next()? {
-            Wants::Act(act) => Ok(Intent::Make(act)),
-            Wants::Finished => Ok(Intent::Leave),
+        match self.session.go_on()? {
+            Need::Answer => Ok(Intent::Make),
+            Need::Nothing => Ok(Intent::Leave),
         }
     }
 
@@ -118,7 +118,7 @@ impl<K: Shelf> UserSeat<K> {
         ensures err { OnErr result (core.new ≡ core.old) }
     {
         match intent {
-            Intent::Make(act) => self.make(core, act),
+            Intent::Make => self.make(core),
             Intent::TryAgain => self.retry(core),
             Intent::Leave => {
                 core.leave(self.user());
@@ -130,24 +130,43 @@ impl<K: Shelf> UserSeat<K> {
         }
     }
 
-    // Makes an act. A user that waits comes to another act in a full journal alone, where a retry is answered as the act is.
-    fn make(&self, core: &mut Core, act: Act) -> Result<TurnResult, WantOfMemory>
+    // Makes the act of its session. A user that waits comes to another act in a full journal alone, where a retry is answered as
+    // the act is.
+    fn make(&self, core: &mut Core) -> Result<TurnResult, WantOfMemory>
         requires user { IsTrue (is_user core.old.users self.now.session.user) }
         requires people { ArePeople core.old.users }
         requires stays { has_left core.old.journal self.now.session.user ≡ false }
         requires waiting { self.now.session.stage ≡ SessionStage.Waiting }
-        requires asked { (exchanges : List Exchange) × AsksNow core.old.journal exchanges act self.now.session }
+        requires asked { (exchanges : List Exchange) × AsksOwn core.old.journal exchanges self.now.session }
         ensures one { IfOk result (λ came. IsOneIf came.is_entered self.now.session.user core.old core.new) }
-        ensures brings { IfOk result (λ came. (exchanges : List Exchange) → AsksNow core.old.journal exchanges act self.now.session
+        ensures brings { IfOk result (λ came. (exchanges : List Exchange) → AsksOwn core.old.journal exchanges self.now.session
             → BringsFurther core.old exchanges self.now.session core.new (option_map plain_answer came.answer)) }
         ensures err { OnErr result (core.new ≡ core.old) }
     {
         if core.waits(self.user()) {
-            drop(act);
             return self.retry(core);
         }
+        match self.session.act() {
+            None => unreachable!(),
+            Some(act) => self.step(core, act),
+        }
+    }
+
+    // Makes an act of a user that does not wait.
+    fn step(&self, core: &mut Core, act: &Act) -> Result<TurnResult, WantOfMemory>
+        requires user { IsTrue (is_user core.old.users self.now.session.user) }
+        requires people { ArePeople core.old.users }
+        requires stays { has_left core.old.journal self.now.session.user ≡ false }
+        requires waiting { self.now.session.stage ≡ SessionStage.Waiting }
+        requires free { waits core.old.journal self.now.session.user ≡ false }
+        requires asked { (exchanges : List Exchange) × AsksNow core.old.journal exchanges act.now self.now.session }
+        ensures one { IfOk result (λ came. IsOneIf came.is_entered self.now.session.user core.old core.new) }
+        ensures brings { IfOk result (λ came. (exchanges : List Exchange) → AsksNow core.old.journal exchanges act.now self.now.session
+            → BringsFurther core.old exchanges self.now.session core.new (option_map plain_answer came.answer)) }
+        ensures err { OnErr result (core.new ≡ core.old) }
+    {
         let is_entered = !core.is_full();
-        let answer = core.step(self.user(), act)?;
+        let answer = core.step_with(self.user(), act)?;
         Ok(TurnResult {
             is_entered,
             answer: Some(answer),

@@ -61,6 +61,7 @@ pub record ServesItsWork (journal : Entries) (party : ℕ) : Type 0 where
   pub replied : (local : List ℕ) (reply : PlainArray) (replies : List PlainArray) → work_of journal party ≡ work.Reply local
       → served journal party (reply ∷ replies) ≡ record { journal = journal_after journal party (act.Set local reply); replies = replies }
 
+-- each auxiliary serves its work in each turn
 abbrev pub AuxiliariesServeTheirWork : Type 0
 AuxiliariesServeTheirWork = (journal : Entries) (party : ℕ) → ServesItsWork journal party
 

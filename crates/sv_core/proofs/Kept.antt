@@ -75,6 +75,12 @@ entry_is journal party act given made answer pairs =
     ap (λ (a : PlainAnswer). let e : PlainEntry = record { party = party; act = act; answer = a; made = made } in e) answer
     ∙ ap (λ (ps : List Pair). let e : PlainEntry = record { party = party; act = act; answer = (outcome journal party act).answer; made = ps } in e) pairs
 
+-- the same of an entry with an equal act
+pub entry_as : (journal : Entries) (party : ℕ) (act kept : Act) (given : PlainAnswer) (made : List Pair) → kept ≡ act → given ≡ (outcome journal party act).answer → made ≡ (outcome journal party act).made →
+    (let e : PlainEntry = record { party = party; act = kept; answer = given; made = made } in e) ≡ entry_for journal party act
+entry_as journal party act kept given made same answer pairs =
+    ap (λ (a : Act). let e : PlainEntry = record { party = party; act = a; answer = given; made = made } in e) same ∙ entry_is journal party act given made answer pairs
+
 -- the core is the one after the act
 pub core_is : (core : PlainCore) (old new : PlainLog) (party : ℕ) (act : Act) → (let c : PlainCore = record { users = old.users; journal = old.journal } in c) ≡ core →
     new.users ≡ old.users → new.journal ≡ entry_for old.journal party act ∷ old.journal → (let c : PlainCore = record { users = new.users; journal = new.journal } in c) ≡ core_after core party act

@@ -61,6 +61,12 @@ set_hands_in (Set local new) access h is = (new, refl)
 set_hands_in (Use local) access h is = absurd (let k : kind.Use ≡ kind.Set = ap (λ (a : Accessing). a.kind) (same_Some _ access h) ∙ is in cc)
 set_hands_in _ access h is = absurd (none-some access h)
 
+-- a use hands none in
+pub use_hands_none : (act : Act) (access : Accessing) → (act_row act).row.accesses ≡ Some access → access.kind ≡ kind.Use → (act_row act).hands_in ≡ None
+use_hands_none (Set local new) access h is = absurd (let k : kind.Set ≡ kind.Use = ap (λ (a : Accessing). a.kind) (same_Some _ access h) ∙ is in cc)
+use_hands_none (Use local) access h is = refl
+use_hands_none _ access h is = absurd (none-some access h)
+
 -- the value in the answer of a use is what it gives
 pub value_answered : (given : Option PlainArray) → (answer_row (value_answer given)).value ≡ given
 value_answered None = refl

@@ -29,5 +29,6 @@ pub record IsOneAppended (core : PlainCore) (party : ℕ) (act : Act) : Type 0 w
   pub appended : entries_in_order (core_after core party act) ≡ entries_in_order core ++ entry_for core.journal party act ∷ []
   pub members : members_of (core_after core party act) ≡ members_of core
 
+-- one act adds one entry
 abbrev pub OneMoreIsAppended : Type 0
 OneMoreIsAppended = (core : PlainCore) (party : ℕ) (act : Act) → IsOneAppended core party act

@@ -37,6 +37,7 @@ pub record IsWholeCore (core : CoreParts) : Type 0 where
   pub spare_count : present core.users core.journal ≤ length core.spares
   pub spare_room : All IsSpare core.spares
 
+-- the parts of a core
 abbrev pub core_parts : Inside → CoreParts
 core_parts c = record {
   users = c.log.users;

@@ -13,7 +13,6 @@ ghost use Rattle.sv_rules.specs.Refused.{hold_on};
 ghost use Rattle.sv_rules.specs.Standing.{own_offer, standing};
 
 use crate::Core;
-use crate::telling::no_act;
 use crate::updating::{note_set, note_use};
 use apl_arrays::{Array, List, WantOfMemory};
 use std::alloc::Global;
@@ -28,12 +27,12 @@ impl Core {
         &mut self,
         party: u32,
         access: &Accessing,
-        act: Act,
+        act: &Act,
     ) -> Result<Answer, WantOfMemory>
-        requires may { MayMake self.old party act }
-        requires row { (act_row act).row.accesses ≡ Some access.now }
-        ensures answer { IfOk result (λ answer. plain_answer answer ≡ (outcome self.old.journal party act).answer) }
-        ensures journal { OnOk result (self.new ≡ core_after self.old party act) }
+        requires may { MayMake self.old party act.now }
+        requires row { (act_row act.now).row.accesses ≡ Some access.now }
+        ensures answer { IfOk result (λ answer. plain_answer answer ≡ (outcome self.old.journal party act.now).answer) }
+        ensures journal { OnOk result (self.new ≡ core_after self.old party act.now) }
         ensures err { OnErr result (self.new ≡ self.old) }
     {
         if let Some(offer) = &self.own(party, &access.local) {
@@ -47,16 +46,17 @@ impl Core {
         &mut self,
         party: u32,
         access: &Accessing,
-        act: Act,
+        act: &Act,
     ) -> Result<Answer, WantOfMemory>
-        requires may { MayMake self.old party act }
-        requires row { (act_row act).row.accesses ≡ Some access.now }
+        requires may { MayMake self.old party act.now }
+        requires row { (act_row act.now).row.accesses ≡ Some access.now }
         requires none { own_offer (standing self.old.journal) party access.now.local ≡ None }
-        ensures answer { IfOk result (λ answer. plain_answer answer ≡ (outcome self.old.journal party act).answer) }
-        ensures journal { OnOk result (self.new ≡ core_after self.old party act) }
+        ensures answer { IfOk result (λ answer. plain_answer answer ≡ (outcome self.old.journal party act.now).answer) }
+        ensures journal { OnOk result (self.new ≡ core_after self.old party act.now) }
         ensures err { OnErr result (self.new ≡ self.old) }
     {
-        self.enter_quiet(party, act, Answer::NotShared)
+        let entered = act.copy(self.alloc)?;
+        self.enter_quiet(party, entered, Answer::NotShared)
     }
 
     // An access on a standing offer, by its coupling.
@@ -66,15 +66,15 @@ impl Core {
         offer: &Standing,
         coupling: &Option<Coupling>,
         access: &Accessing,
-        act: Act,
+        act: &Act,
     ) -> Result<Answer, WantOfMemory>
-        requires may { MayMake self.old party act }
-        requires row { (act_row act).row.accesses ≡ Some access.now }
+        requires may { MayMake self.old party act.now }
+        requires row { (act_row act.now).row.accesses ≡ Some access.now }
         requires own { own_offer (standing self.old.journal) party access.now.local ≡ Some offer.now }
         requires coupled { coupling.now ≡ coupling_now self.old.journal offer.now.place }
         requires found { IfSome coupling.now (IsFound self.old.journal offer.now.place) }
-        ensures answer { IfOk result (λ answer. plain_answer answer ≡ (outcome self.old.journal party act).answer) }
-        ensures journal { OnOk result (self.new ≡ core_after self.old party act) }
+        ensures answer { IfOk result (λ answer. plain_answer answer ≡ (outcome self.old.journal party act.now).answer) }
+        ensures journal { OnOk result (self.new ≡ core_after self.old party act.now) }
         ensures err { OnErr result (self.new ≡ self.old) }
     {
         if let Some(hold) = self.hold_on(offer, coupling, access.kind) {
@@ -93,18 +93,19 @@ impl Core {
         offer: &Standing,
         access: &Accessing,
         hold: Hold,
-        act: Act,
+        act: &Act,
     ) -> Result<Answer, WantOfMemory>
-        requires may { MayMake self.old party act }
-        requires row { (act_row act).row.accesses ≡ Some access.now }
+        requires may { MayMake self.old party act.now }
+        requires row { (act_row act.now).row.accesses ≡ Some access.now }
         requires own { own_offer (standing self.old.journal) party access.now.local ≡ Some offer.now }
         requires held { hold_on self.old.journal access.now.kind (Some offer.now) ≡ Some hold }
-        ensures answer { IfOk result (λ answer. plain_answer answer ≡ (outcome self.old.journal party act).answer) }
-        ensures journal { OnOk result (self.new ≡ core_after self.old party act) }
+        ensures answer { IfOk result (λ answer. plain_answer answer ≡ (outcome self.old.journal party act.now).answer) }
+        ensures journal { OnOk result (self.new ≡ core_after self.old party act.now) }
         ensures err { OnErr result (self.new ≡ self.old) }
     {
+        let entered = act.copy(self.alloc)?;
         let answer = refusal_answer(self.waits(party), hold);
-        self.enter_quiet(party, act, answer)
+        self.enter_quiet(party, entered, answer)
     }
 
     // A set that is not refused.
@@ -114,33 +115,32 @@ impl Core {
         offer: &Standing,
         coupling: &Option<Coupling>,
         access: &Accessing,
-        act: Act,
+        act: &Act,
     ) -> Result<Answer, WantOfMemory>
-        requires may { MayMake self.old party act }
-        requires row { (act_row act).row.accesses ≡ Some access.now }
+        requires may { MayMake self.old party act.now }
+        requires row { (act_row act.now).row.accesses ≡ Some access.now }
         requires kind { access.now.kind ≡ Kind.Set }
         requires own { own_offer (standing self.old.journal) party access.now.local ≡ Some offer.now }
         requires free { hold_on self.old.journal access.now.kind (Some offer.now) ≡ None }
         requires coupled { coupling.now ≡ coupling_now self.old.journal offer.now.place }
         requires found { IfSome coupling.now (IsFound self.old.journal offer.now.place) }
-        ensures answer { IfOk result (λ answer. plain_answer answer ≡ (outcome self.old.journal party act).answer) }
-        ensures journal { OnOk result (self.new ≡ core_after self.old party act) }
+        ensures answer { IfOk result (λ answer. plain_answer answer ≡ (outcome self.old.journal party act.now).answer) }
+        ensures journal { OnOk result (self.new ≡ core_after self.old party act.now) }
         ensures err { OnErr result (self.new ≡ self.old) }
     {
-        let set = set_handed(
+        let Ok(entered) = set_handed(
             self.alloc,
             &mut self.log,
             &mut self.cells,
             offer,
             coupling,
-            &act,
-        );
-        if set.is_err() {
-            return no_act(act);
-        }
+            act,
+        ) else {
+            return Err(WantOfMemory);
+        };
         self.log.push(Entry {
             party,
-            act,
+            act: entered,
             answer: Answer::Granted,
             made: List::new(self.alloc),
         });
@@ -154,22 +154,20 @@ impl Core {
         offer: &Standing,
         coupling: &Option<Coupling>,
         access: &Accessing,
-        act: Act,
+        act: &Act,
     ) -> Result<Answer, WantOfMemory>
-        requires may { MayMake self.old party act }
-        requires row { (act_row act).row.accesses ≡ Some access.now }
+        requires may { MayMake self.old party act.now }
+        requires row { (act_row act.now).row.accesses ≡ Some access.now }
         requires kind { access.now.kind ≡ Kind.Use }
         requires own { own_offer (standing self.old.journal) party access.now.local ≡ Some offer.now }
         requires free { hold_on self.old.journal access.now.kind (Some offer.now) ≡ None }
         requires coupled { coupling.now ≡ coupling_now self.old.journal offer.now.place }
         requires found { IfSome coupling.now (IsFound self.old.journal offer.now.place) }
-        ensures answer { IfOk result (λ answer. plain_answer answer ≡ (outcome self.old.journal party act).answer) }
-        ensures journal { OnOk result (self.new ≡ core_after self.old party act) }
+        ensures answer { IfOk result (λ answer. plain_answer answer ≡ (outcome self.old.journal party act.now).answer) }
+        ensures journal { OnOk result (self.new ≡ core_after self.old party act.now) }
         ensures err { OnErr result (self.new ≡ self.old) }
     {
-        let Ok(given) = given_by(self.alloc, self.value_for(offer, coupling)) else {
-            return no_act(act);
-        };
+        let given = given_by(self.alloc, self.value_for(offer, coupling))?;
         let Ok(kept) = use_given(
             self.alloc,
             &mut self.log,
@@ -179,11 +177,11 @@ impl Core {
             given.value(),
         ) else {
             drop(given);
-            return no_act(act);
+            return Err(WantOfMemory);
         };
         self.log.push(Entry {
             party,
-            act,
+            act: use_again(act),
             answer: kept,
             made: List::new(self.alloc),
         });
@@ -191,8 +189,8 @@ impl Core {
     }
 }
 
-// Room for the entry, and the value that an act hands in, set on an offer by its coupling. It takes memory; after
-// `WantOfMemory` the cells are as before.
+// Room for the entry, an equal act for it, and the value that the act hands in, set on an offer by its coupling. It takes
+// memory; after `WantOfMemory` the cells are as before.
 fn set_handed(
     alloc: Global,
     log: &mut Log,
@@ -200,9 +198,11 @@ fn set_handed(
     offer: &Standing,
     coupling: &Option<Coupling>,
     act: &Act,
-) -> Result<(), WantOfMemory>
+) -> Result<Act, WantOfMemory>
     requires ready { IsReady cells.old offer.now coupling.now }
+    requires sets { IsSome (act_row act.now).row.accesses }
     requires hands { IsSome (act_row act.now).hands_in }
+    ensures act { IfOk result (λ entered. entered ≡ act.now) }
     ensures users { log.new.users ≡ log.old.users }
     ensures journal { log.new.journal ≡ log.old.journal }
     ensures kept { log.old.room ≤ log.new.room }
@@ -210,13 +210,34 @@ fn set_handed(
     ensures set { OnOk result ((value : PlainArray) → (act_row act.now).hands_in ≡ Some value → AfterAccess cells.old cells.new offer.now (set_access value) coupling.now) }
     ensures err { OnErr result (KeepsCells cells.old cells.new) }
 {
-    log.reserve()?;
-    match act.hands_in() {
-        None => unreachable!(),
-        Some(value) => {
-            note_set(cells, offer, coupling, value.copy(alloc)?);
-            Ok(())
+    match act {
+        Act::Set(local, value) => {
+            log.reserve()?;
+            let entered = value.copy(alloc)?;
+            match value.copy(alloc) {
+                Ok(set) => {
+                    note_set(cells, offer, coupling, set);
+                    Ok(Act::Set(*local, entered))
+                }
+                Err(_) => {
+                    drop(entered);
+                    Err(WantOfMemory)
+                }
+            }
         }
+        _ => unreachable!(),
+    }
+}
+
+// An act that is equal to a use.
+fn use_again(act: &Act) -> Act
+    requires uses { IsSome (act_row act.now).row.accesses }
+    requires none { (act_row act.now).hands_in ≡ None }
+    ensures { result ≡ act.now }
+{
+    match act {
+        Act::Use(local) => Act::Use(*local),
+        _ => unreachable!(),
     }
 }
 

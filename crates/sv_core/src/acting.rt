@@ -14,11 +14,12 @@ use sv_events::{Act, Answer, Controlling, Ending, Question};
 use sv_rules::Standing;
 
 impl Core {
-    // The answer to an act that its party may make, other than a leave, where there is room; its entry is added.
-    pub(crate) fn make(&mut self, party: u32, act: Act) -> Result<Answer, WantOfMemory>
-        requires { MayMake self.old party act }
-        ensures answer { IfOk result (λ answer. plain_answer answer ≡ (outcome self.old.journal party act).answer) }
-        ensures journal { OnOk result (self.new ≡ core_after self.old party act) }
+    // The answer to an act that its party may make, other than a leave, where there is room; its entry is added, with an
+    // equal act.
+    pub(crate) fn make(&mut self, party: u32, act: &Act) -> Result<Answer, WantOfMemory>
+        requires { MayMake self.old party act.now }
+        ensures answer { IfOk result (λ answer. plain_answer answer ≡ (outcome self.old.journal party act.now).answer) }
+        ensures journal { OnOk result (self.new ≡ core_after self.old party act.now) }
         ensures err { OnErr result (self.new ≡ self.old) }
     {
         if let Some(access) = &act.access() {
@@ -27,8 +28,20 @@ impl Core {
         self.make_other(party, act)
     }
 
-    // The answer to an act that is no access.
-    fn make_other(&mut self, party: u32, act: Act) -> Result<Answer, WantOfMemory>
+    // The answer to an act that is no access; its entry has an equal act.
+    fn make_other(&mut self, party: u32, act: &Act) -> Result<Answer, WantOfMemory>
+        requires may { MayMake self.old party act.now }
+        requires row { (act_row act.now).row.accesses ≡ None }
+        ensures answer { IfOk result (λ answer. plain_answer answer ≡ (outcome self.old.journal party act.now).answer) }
+        ensures journal { OnOk result (self.new ≡ core_after self.old party act.now) }
+        ensures err { OnErr result (self.new ≡ self.old) }
+    {
+        let entered = act.copy(self.alloc)?;
+        self.make_by_row(party, entered)
+    }
+
+    // The same, by its row.
+    fn make_by_row(&mut self, party: u32, act: Act) -> Result<Answer, WantOfMemory>
         requires may { MayMake self.old party act }
         requires row { (act_row act).row.accesses ≡ None }
         ensures answer { IfOk result (λ answer. plain_answer answer ≡ (outcome self.old.journal party act).answer) }

@@ -136,9 +136,9 @@ impl Core {
     }
 
     /// The answer to an act, other than a leave, of a party that has not left and does not wait; an auxiliary's is that of
-    /// its work. One entry is added, with this answer and the pairs that the act couples; a full journal answers `Full` and
-    /// adds none. It takes memory for the entry, the answer and the room of later leaves; after `WantOfMemory` all is as
-    /// before.
+    /// its work. One entry is added, with this act, this answer and the pairs that the act couples; a full journal answers
+    /// `Full` and adds none. It takes memory for the entry, the answer and the room of later leaves; after `WantOfMemory` all
+    /// is as before.
     pub fn step(&mut self, party: u32, act: Act) -> Result<Answer, WantOfMemory>
         requires member { IsTrue (is_user self.old.users party || is_auxiliary party) }
         requires present { IsTrue (not (has_left self.old.journal party)) }
@@ -149,8 +149,23 @@ impl Core {
         ensures journal { OnOk result (self.new ≡ record { users = self.old.users; journal = journal_after self.old.journal party act }) }
         ensures err { OnErr result (self.new ≡ self.old) }
     {
+        let result = self.step_with(party, &act);
+        drop(act);
+        result
+    }
+
+    /// The same for an act that stays with its party: the entry has a copy of it.
+    pub fn step_with(&mut self, party: u32, act: &Act) -> Result<Answer, WantOfMemory>
+        requires member { IsTrue (is_user self.old.users party || is_auxiliary party) }
+        requires present { IsTrue (not (has_left self.old.journal party)) }
+        requires goes_on { awaited self.old.journal party ≡ None }
+        requires due { act_due (is_auxiliary party) self.old.journal party act.now ≡ Some act.now }
+        requires stays { IsTrue (not (is_leave act.now)) }
+        ensures answer { IfOk result (λ answer. plain_answer answer ≡ answer_to self.old.journal party act.now) }
+        ensures journal { OnOk result (self.new ≡ record { users = self.old.users; journal = journal_after self.old.journal party act.now }) }
+        ensures err { OnErr result (self.new ≡ self.old) }
+    {
         if self.log.is_full() {
-            drop(act);
             return Ok(Answer::Full);
         }
         self.make(party, act)
@@ -173,8 +188,16 @@ impl Core {
             return Ok(Retry::StillHeld);
         }
         let act = self.awaited_act(party)?;
-        let answer = self.make(party, act)?;
-        Ok(Retry::Now(answer))
+        match self.make(party, &act) {
+            Ok(answer) => {
+                drop(act);
+                Ok(Retry::Now(answer))
+            }
+            Err(_) => {
+                drop(act);
+                Err(WantOfMemory)
+            }
+        }
     }
 
     // Whether something refuses the act that a party waits for, while somebody can go on.

@@ -7,6 +7,7 @@ use Rattle.sv_turn.specs.declared.seat.Seat.{Seat}
 use Rattle.sv_turn.specs.declared.turnstile.Turnstile.{Turnstile}
 
 module _ {E : Type 0} where
+  -- the journal that the view of a party knows; none where it has no view
   abbrev pub known_in : List (View E) → List E
   known_in [] = []
   known_in (v ∷ views) = v.account.known

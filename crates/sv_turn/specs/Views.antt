@@ -72,12 +72,15 @@ module _ {E : Type 0} where
   abbrev pub accounts_of : View E → List (Account E)
   accounts_of v = v.account ∷ v.kept
 
+  -- the weight that a party holds
   abbrev pub weight_of : View E → ℕ
   weight_of v = v.weight
 
+  -- the tickets that a party holds
   abbrev pub tickets_of : View E → ℕ
   tickets_of v = tickets v.stage
 
+  -- the turns that a party holds
   abbrev pub turns_of : View E → ℕ
   turns_of v = turns v.stage
 

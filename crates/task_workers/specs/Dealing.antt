@@ -27,6 +27,7 @@ abbrev pub last_apart : {A : Type 0} → A → List A → List A × A
 last_apart x [] = ([], x)
 last_apart x (y ∷ ys) = let rest = last_apart y ys in (x ∷ rest.0, rest.1)
 
+-- a list cut before its last item; none of an empty list
 abbrev pub ends_apart : {A : Type 0} → List A → Option (List A × A)
 ends_apart [] = None
 ends_apart (x ∷ xs) = Some (last_apart x xs)
@@ -41,6 +42,7 @@ module _ {A : Type 0} where
   gathered_from None more tasks = tasks
   gathered_from (Some one) more tasks = more one.0 (one.1 ∷ tasks)
 
+  -- so many of the last tasks of each list in front of others
   abbrev pub gathered : ℕ → List (List A) → List A → List A
   gathered zero loads tasks = tasks
   gathered (suc count) loads tasks = gathered_from (gathered_one loads) (gathered count) tasks

@@ -10,8 +10,7 @@ use std::sync::Wait;
 use std::sync::atomic::{AtomicU64, Ordering};
 use std::thread::{Promise, PromisedHandle, Scope, Threads};
 
-/// Stands where the number of the worker that was turned back is to stand, as long as none was: the caller's own worker has it,
-/// which is never started.
+/// No worker was turned back: 0 is the caller's own, which is never started.
 pub const NOBODY: u64 = 0;
 
 /// The promise of a worker: the tasks that it was given come back.

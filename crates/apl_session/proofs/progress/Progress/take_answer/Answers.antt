@@ -1,13 +1,11 @@
-use Rattle.std.proofs.Common.{◌≡◌, ap, length, subst, sym, ◌∙◌}
+use Rattle.std.proofs.Common.{◌≡◌, ap, length, sym, ◌∙◌}
 use Rattle.std.specs.Prelude.{map}
 use Rattle.apl_arrays.specs.List.{glyphs_in}
 use Rattle.sv_events.specs.Answer.{plain_answer}
-use Rattle.apl_session.specs.Errands.{IsFirstAct}
-use Rattle.apl_session.specs.Standing.{IsCommanded, CommandMayGoOn, MayHear}
-use Rattle.apl_session.specs.declared.errand.Errand.{Errand}
+use Rattle.apl_session.specs.Standing.{MayHear}
 use Rattle.apl_session.specs.declared.progress.Progress.{Progress}
 use Rattle.apl_session.specs.declared.under_way.UnderWay.TheVariants as under_way
-use Rattle.apl_session.proofs.Moves.{answered_on, command_heard, heard_on, may_hear_command, may_hear_there}
+use Rattle.apl_session.proofs.Moves.{answered_on, command_heard, heard_on, if_ok_at, may_hear_command, may_hear_there}
 use Rattle.apl_session.proofs.progress.Progress.take_answer.Goals as goal
 
 -- a line that is one act alone is done with the answer
@@ -25,27 +23,25 @@ pub returns-in-Ok-hand : goal.returns-in-Ok-hand
 returns-in-Ok-hand c = λ answers exchanges at. answered_on _ answers exchanges c.in-Asking.act (plain_answer c.args.answer) c.in-Asking.machine c.args.self.now c.hand.new.self c.replace.new.dest (sym c.replace.ensures.value ∙ c.in-Asking.is) c.hand.ensures.stands at
 
 -- what it does for a command is done
-pub hear_command-requires-clause-none : goal.hear_command-requires-clause-none
-hear_command-requires-clause-none c = c.replace.ensures.after
+pub answer_command-requires-clause-none : goal.answer_command-requires-clause-none
+answer_command-requires-clause-none c = c.replace.ensures.after
 
-pub hear_command-requires-clause-may : goal.hear_command-requires-clause-may
-hear_command-requires-clause-may c =
+pub answer_command-requires-clause-may : goal.answer_command-requires-clause-may
+answer_command-requires-clause-may c =
     let p : Progress = c.args.self.now in
     let waits : p.under_way ≡ under_way.Commanding c.in-Commanding.errand c.in-Commanding.act = sym c.replace.ensures.value ∙ c.in-Commanding.is in
-    subst (λ (e : Errand). CommandMayGoOn p.terminal e) (sym c.into_inner.ensures) (may_hear_command (length c.args.lines.now) p.read p.terminal p.under_way c.in-Commanding.errand c.in-Commanding.act waits c.requires).0
+    (may_hear_command (length c.args.lines.now) p.read p.terminal p.under_way c.in-Commanding.errand c.in-Commanding.act waits c.requires).0
 
-pub hear_command-requires-clause-first : goal.hear_command-requires-clause-first
-hear_command-requires-clause-first c =
+pub answer_command-requires-clause-first : goal.answer_command-requires-clause-first
+answer_command-requires-clause-first c =
     let p : Progress = c.args.self.now in
     let waits : p.under_way ≡ under_way.Commanding c.in-Commanding.errand c.in-Commanding.act = sym c.replace.ensures.value ∙ c.in-Commanding.is in
-    subst (λ (e : Errand). IsFirstAct e p.terminal.workspace c.in-Commanding.act) (sym c.into_inner.ensures) (may_hear_command (length c.args.lines.now) p.read p.terminal p.under_way c.in-Commanding.errand c.in-Commanding.act waits c.requires).1
+    (may_hear_command (length c.args.lines.now) p.read p.terminal p.under_way c.in-Commanding.errand c.in-Commanding.act waits c.requires).1
 
-pub returns-in-Ok-hear_command : goal.returns-in-Ok-hear_command
-returns-in-Ok-hear_command c =
+pub returns-in-Commanding : goal.returns-in-Commanding
+returns-in-Commanding c =
     let p : Progress = c.args.self.now in
     let waits : p.under_way ≡ under_way.Commanding c.in-Commanding.errand c.in-Commanding.act = sym c.replace.ensures.value ∙ c.in-Commanding.is in
     let answer = plain_answer c.args.answer in
-    λ answers exchanges at.
-    command_heard (map glyphs_in c.args.lines.now) answers exchanges c.in-Commanding.act answer c.in-Commanding.errand p c.hear_command.new.self waits
-    (λ list given had h. c.in-Ok-hear_command.ensures.heard list given had (subst (λ (e : Errand). IsCommanded list given had p.read p.terminal e) (sym c.into_inner.ensures) h))
-    c.in-Ok-hear_command.ensures.may at
+    if_ok_at c.answer_command.result c.in-Commanding.act _ c.answer_command.ensures.act c.answer_command.ensures.heard c.answer_command.ensures.may
+    (λ heard may answers exchanges at. command_heard (map glyphs_in c.args.lines.now) answers exchanges c.in-Commanding.act answer c.in-Commanding.errand p c.answer_command.new.self waits heard may at)

@@ -9,7 +9,7 @@ returns-clause-ok g c =
     let answer = c.in_ok-reply.reply in
     then_so (MakesWork old.party (Some answer) c.args.core.now c.enter.new.core)
     (TookTurn {X = g.row.X.Denot} g.X.Replier.forgets g.X.Replier.replies old (record old { replier = c.reply.new.self }) c.args.core.now c.enter.new.core) c.enter.result
-    (λ made. reply_turn {X = g.row.X.Denot} g.X.Replier.forgets g.X.Replier.replies old c.args.core.now c.enter.new.core c.args.local c.customer.result c.request.result.now answer c.reply.new.self made c.requires.due c.customer.ensures c.request.ensures c.in_ok-reply.ensures)
+    (λ made. reply_turn {X = g.row.X.Denot} g.X.Replier.forgets g.X.Replier.replies old c.args.core.now c.enter.new.core c.args.local c.customer.result c.request.result.now answer c.reply.new.self made c.requires.due c.customer.ensures c.request.ensures c.in_ok-reply.ensures.ok)
     c.enter.ensures.ok
 
 pub returns-clause-one : goal.returns-clause-one

@@ -4,6 +4,7 @@ use Rattle.std.specs.Prelude.{Contains, IsSome}
 use Rattle.apl_arrays.specs.Array.{PlainArray}
 use Rattle.sv_cell_laws.proofs.QuietSteps.{set_makes_access}
 use Rattle.sv_cell_laws.specs.Steps.{set_access}
+use Rattle.sv_events.specs.declared.row.Accessing.{Accessing}
 use Rattle.sv_offer_laws.proofs.OwnLemmas.{own_offer-parts}
 use Rattle.sv_rules.specs.Coupling.{coupling_now}
 use Rattle.sv_rules.specs.Entries.{is_leave}
@@ -12,7 +13,7 @@ use Rattle.sv_rules.specs.Outcome.{ActOutcome}
 use Rattle.sv_rules.specs.Refused.{hold_on}
 use Rattle.sv_rules.specs.Standing.{own_offer, standing}
 use Rattle.sv_core.proofs.AccessingLemmas.{answers_with, ready_with}
-use Rattle.sv_core.proofs.Kept.{IsEntered, entered, entry_is, on_failure, on_success, same_core}
+use Rattle.sv_core.proofs.Kept.{IsEntered, entered, entry_as, same_core}
 use Rattle.sv_core.proofs.MakingLemmas.{access_core}
 use Rattle.sv_core.proofs.OutcomeLemmas.{access_granted, outcome_of_access, set_hands_in}
 use Rattle.sv_core.specs.Core.{PlainCore}
@@ -22,21 +23,24 @@ use Rattle.sv_core.proofs.processor.Core.grant_set.Goals.{After-push}
 
 pub invariant_of-self : goal.invariant_of-self
 invariant_of-self c =
-    same_core (core_parts c.self.inside) _ c.self.invariant c.set_handed-set.ensures.users c.set_handed-set.ensures.journal refl refl refl
-    (on_failure c.set_handed-set.result _ c.if-is_err.ensures.negation c.set_handed-set.ensures.err) c.set_handed-set.ensures.kept
+    same_core (core_parts c.self.inside) _ c.self.invariant c.set_handed.ensures.users c.set_handed.ensures.journal refl refl refl
+    c.in_default.ensures.err c.set_handed.ensures.kept
 
-pub set_handed-set-requires-clause-hands : goal.set_handed-set-requires-clause-hands
-set_handed-set-requires-clause-hands c = subst (λ (o : Option PlainArray). IsSome o) (sym (set_hands_in c.args.act c.args.access.now c.requires.row c.requires.kind).1) cc
+pub set_handed-requires-clause-hands : goal.set_handed-requires-clause-hands
+set_handed-requires-clause-hands c = subst (λ (o : Option PlainArray). IsSome o) (sym (set_hands_in c.args.act.now c.args.access.now c.requires.row c.requires.kind).1) cc
 
-pub set_handed-set-requires-clause-ready : goal.set_handed-set-requires-clause-ready
-set_handed-set-requires-clause-ready c =
+pub set_handed-requires-clause-sets : goal.set_handed-requires-clause-sets
+set_handed-requires-clause-sets c = subst (λ (o : Option Accessing). IsSome o) (sym c.requires.row) cc
+
+pub set_handed-requires-clause-ready : goal.set_handed-requires-clause-ready
+set_handed-requires-clause-ready c =
     let has = subst (λ (v : PlainCore). Contains (standing v.journal) c.args.offer.now) (sym c.self.view_is) (own_offer-parts (standing c.args.self.now.journal) c.args.party c.args.access.now.local c.args.offer.now c.requires.own).2 in
     ready_with (core_parts c.self.inside) c.self.invariant c.args.offer.now has c.args.coupling.now
     (subst (λ (v : PlainCore). c.args.coupling.now ≡ coupling_now v.journal c.args.offer.now.place) (sym c.self.view_is) c.requires.coupled)
 
 -- the act may be made after the journal as it was
-may : (c : After-push) → MayFollow c.self.inside.log.users c.self.inside.log.journal (entry_for c.self.inside.log.journal c.args.party c.args.act)
-may c = subst (λ (v : PlainCore). MayFollow v.users v.journal (entry_for v.journal c.args.party c.args.act)) (sym c.self.view_is) c.requires.may.may
+may : (c : After-push) → MayFollow c.self.inside.log.users c.self.inside.log.journal (entry_for c.self.inside.log.journal c.args.party c.args.act.now)
+may c = subst (λ (v : PlainCore). MayFollow v.users v.journal (entry_for v.journal c.args.party c.args.act.now)) (sym c.self.view_is) c.requires.may.may
 
 -- the offer is the party's own
 own : (c : After-push) → own_offer (standing c.self.inside.log.journal) c.args.party c.args.access.now.local ≡ Some c.args.offer.now
@@ -51,19 +55,19 @@ free : (c : After-push) → hold_on c.self.inside.log.journal c.args.access.now.
 free c = subst (λ (v : PlainCore). hold_on v.journal c.args.access.now.kind (Some c.args.offer.now) ≡ None) (sym c.self.view_is) c.requires.free
 
 -- the log with the entry of the act
-more : (c : After-push) → IsEntered c.self.inside.log c.push.new.self (entry_for c.self.inside.log.journal c.args.party c.args.act)
+more : (c : After-push) → IsEntered c.self.inside.log c.push.new.self (entry_for c.self.inside.log.journal c.args.party c.args.act.now)
 more c =
     let journal = c.self.inside.log.journal in
-    entered c.self.inside.log c.set_handed-set.new.log c.push.new.self _ _ c.set_handed-set.ensures.users c.set_handed-set.ensures.journal (on_success c.set_handed-set.result _ c.if-is_err.ensures.negation c.set_handed-set.ensures.room)
-    c.push.ensures.users c.push.ensures.journal c.push.ensures.room (entry_is journal c.args.party c.args.act _ _ (access_granted journal c.args.party c.args.act c.args.access.now c.args.offer.now c.requires.row c.requires.kind (own c) (free c)) (c.new.ensures ∙ sym (ap (λ (o : ActOutcome). o.made) (outcome_of_access journal c.args.party c.args.act c.args.access.now c.requires.row))))
+    entered c.self.inside.log c.set_handed.new.log c.push.new.self _ _ c.set_handed.ensures.users c.set_handed.ensures.journal c.in-Ok.ensures.room
+    c.push.ensures.users c.push.ensures.journal c.push.ensures.room (entry_as journal c.args.party c.args.act.now _ _ _ c.in-Ok.ensures.act (access_granted journal c.args.party c.args.act.now c.args.access.now c.args.offer.now c.requires.row c.requires.kind (own c) (free c)) (c.new.ensures ∙ sym (ap (λ (o : ActOutcome). o.made) (outcome_of_access journal c.args.party c.args.act.now c.args.access.now c.requires.row))))
 
 pub invariant_of-self-2 : goal.invariant_of-self-2
 invariant_of-self-2 c =
     let d = (goal.at.invariant_of-self-2 c).After-push in
     let core = core_parts c.self.inside in
-    let e = entry_for core.journal c.args.party c.args.act in
-    let handed = set_hands_in c.args.act c.args.access.now c.requires.row c.requires.kind in
-    let makes = set_makes_access core.journal c.args.party c.args.act c.args.access.now c.args.offer.now handed.0 c.requires.row c.requires.kind (own d) (free d) handed.1 in
-    access_core core _ c.self.invariant e c.args.offer.now (set_access handed.0) (may d) (not-true (is_leave c.args.act) c.requires.may.stays)
+    let e = entry_for core.journal c.args.party c.args.act.now in
+    let handed = set_hands_in c.args.act.now c.args.access.now c.requires.row c.requires.kind in
+    let makes = set_makes_access core.journal c.args.party c.args.act.now c.args.access.now c.args.offer.now handed.0 c.requires.row c.requires.kind (own d) (free d) handed.1 in
+    access_core core _ c.self.invariant e c.args.offer.now (set_access handed.0) (may d) (not-true (is_leave c.args.act.now) c.requires.may.stays)
     (own_offer-parts (standing core.journal) c.args.party c.args.access.now.local c.args.offer.now (own d)).2 makes (more d).users (more d).journal refl refl refl
-    (answers_with core c.args.offer.now c.set_handed-set.new.cells (set_access handed.0) c.args.coupling.now (coupled d) (on_success c.set_handed-set.result _ c.if-is_err.ensures.negation c.set_handed-set.ensures.set handed.0 handed.1)) (more d).room
+    (answers_with core c.args.offer.now c.set_handed.new.cells (set_access handed.0) c.args.coupling.now (coupled d) (c.in-Ok.ensures.set handed.0 handed.1)) (more d).room

@@ -1,7 +1,11 @@
+use Rattle.std.proofs.Common.{subst, sym}
 use Rattle.sv_cell_laws.proofs.QuietSteps.{refused_touches_nothing}
+use Rattle.sv_cell_laws.specs.Steps.{TouchesNothing}
+use Rattle.sv_events.specs.declared.event.Act.{Act}
+use Rattle.sv_rules.specs.Legal.{entry_for}
 use Rattle.sv_core.proofs.processor.Core.refuse.Goals as goal
 
 pub enter_quiet-requires-clause-quiet : goal.enter_quiet-requires-clause-quiet
 enter_quiet-requires-clause-quiet c =
-    refused_touches_nothing c.args.self.now.users c.args.self.now.journal c.args.party c.args.act c.args.access.now c.args.offer.now c.args.hold c.requires.may.legal c.requires.may.may c.requires.row c.requires.own
-    c.requires.held
+    subst (λ (act : Act). TouchesNothing c.args.self.now.journal (entry_for c.args.self.now.journal c.args.party act)) (sym c.in_ok-entered.ensures)
+    (refused_touches_nothing c.args.self.now.users c.args.self.now.journal c.args.party c.args.act.now c.args.access.now c.args.offer.now c.args.hold c.requires.may.legal c.requires.may.may c.requires.row c.requires.own c.requires.held)

@@ -30,24 +30,24 @@ make-requires c =
     let room = sym (ap (λ (v : PlainCore). is_full v.journal) c.self.view_is) ∙ sym c.is_full.ensures ∙ c.if-is_full.false in
     may_retry core c.args.party c.in_ok-act.act legal people room (sym c.is_kept_back.ensures ∙ c.if-is_kept_back.false) c.requires.waits c.in_ok-act.ensures
 
-pub returns-clause-answer : goal.returns-clause-answer
-returns-clause-answer c =
+pub returns-in-Ok-clause-answer : goal.returns-in-Ok-clause-answer
+returns-in-Ok-clause-answer c =
     let room = sym (ap (λ (v : PlainCore). is_full v.journal) c.self.view_is) ∙ sym c.is_full.ensures ∙ c.if-is_full.false in
     let goes = goes_on c.args.self.now c.args.party c.in_ok-act.act room (sym c.is_kept_back.ensures ∙ c.if-is_kept_back.false) c.in_ok-act.ensures in
-    ap (λ (a : PlainAnswer). Some a) c.in_ok-answer.ensures.answer ∙ sym goes.1
+    ap (λ (a : PlainAnswer). Some a) c.in-Ok.ensures.answer ∙ sym goes.1
 
-pub returns-clause-journal : goal.returns-clause-journal
-returns-clause-journal c =
+pub returns-in-Ok-clause-journal : goal.returns-in-Ok-clause-journal
+returns-in-Ok-clause-journal c =
     let room = sym (ap (λ (v : PlainCore). is_full v.journal) c.self.view_is) ∙ sym c.is_full.ensures ∙ c.if-is_full.false in
     let goes = goes_on c.args.self.now c.args.party c.in_ok-act.act room (sym c.is_kept_back.ensures ∙ c.if-is_kept_back.false) c.in_ok-act.ensures in
-    c.in_ok-answer.ensures.journal ∙ sym goes.2
+    c.in-Ok.ensures.journal ∙ sym goes.2
 
 pub returns-in_err-act-clause-held : goal.returns-in_err-act-clause-held
 returns-in_err-act-clause-held c = λ held.
     let room = sym (ap (λ (v : PlainCore). is_full v.journal) c.self.view_is) ∙ sym c.is_full.ensures ∙ c.if-is_full.false in
     absurd (not_held c.args.self.now c.args.party room (sym c.is_kept_back.ensures ∙ c.if-is_kept_back.false) held)
 
-pub returns-in_err-answer-clause-held : goal.returns-in_err-answer-clause-held
-returns-in_err-answer-clause-held c = λ held.
+pub returns-in-Err-clause-held : goal.returns-in-Err-clause-held
+returns-in-Err-clause-held c = λ held.
     let room = sym (ap (λ (v : PlainCore). is_full v.journal) c.self.view_is) ∙ sym c.is_full.ensures ∙ c.if-is_full.false in
     absurd (not_held c.args.self.now c.args.party room (sym c.is_kept_back.ensures ∙ c.if-is_kept_back.false) held)
