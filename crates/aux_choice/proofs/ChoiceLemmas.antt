@@ -1,8 +1,8 @@
 -- One of two stays the one that it is.
-use Rattle.std.proofs.Common.{◌≡◌, ℕ, List, [], ◌∷◌, refl, subst}
+use Rattle.std.proofs.Common.{◌≡◌, ◌⊎◌, inl, inr, ◌∙◌, ℕ, List, [], ◌∷◌, refl, subst}
 use Rattle.apl_arrays.specs.Array.{PlainArray}
-use Rattle.auxiliaries.specs.Run.{Event, IsReplierRun, EventLeads, answered, began}
-use Rattle.aux_choice.specs.OneOf.{FirstStays, Forgets, Replies, SecondStays}
+use Rattle.auxiliaries.specs.Run.{CameTo, Event, IsReplierRun, EventLeads, RunsTo, Unanswered, answered, began}
+use Rattle.aux_choice.specs.OneOf.{FirstComes, FirstStays, Forgets, Replies, SecondComes, SecondStays, Wants}
 use Rattle.aux_choice.specs.declared.one_of.OneOf.{OneOf}
 use Rattle.aux_choice.specs.declared.one_of.OneOf.TheVariants.{First, Second}
 
@@ -36,3 +36,33 @@ module _ {X Y : Type 0} (forgets_first : X → ℕ → X → Type 0) (replies_fi
   second_stays start (event ∷ events) end (before, run, lead) =
       let earlier = second_stays start events before run in
       second_goes_on start earlier.0 events event end earlier.2 (subst (λ (c : OneOf X Y). EventLeads (Forgets forgets_first forgets_second) (Replies replies_first replies_second) event c end) earlier.1 lead)
+
+module _ {X Y : Type 0} (forgets_first : X → ℕ → X → Type 0) (replies_first : X → ℕ → PlainArray → PlainArray → X → Type 0) (wants_first : X → ℕ → PlainArray → X → Type 0)
+    (forgets_second : Y → ℕ → Y → Type 0) (replies_second : Y → ℕ → PlainArray → PlainArray → Y → Type 0) (wants_second : Y → ℕ → PlainArray → Y → Type 0) where
+  -- the first, where memory may have run out
+  first_ends : (start reached : X) (last end : OneOf X Y) → last ≡ First reached → RunsTo forgets_first replies_first start reached → (end ≡ last) ⊎ Unanswered (Wants wants_first wants_second) last end
+      → (final : X) × (end ≡ First final) × CameTo forgets_first replies_first wants_first start final
+  first_ends start reached last end is runs (inl same) = (reached, same ∙ is, record { last = reached; runs = runs; ends = inl refl })
+  first_ends start reached last (First final) is runs (inr stays) =
+      let wanted : wants_first reached stays.party stays.value final = subst (λ (c : OneOf X Y). Wants wants_first wants_second c stays.party stays.value (First final)) is stays.wanted in
+      (final, refl, record { last = reached; runs = runs; ends = inr (record { party = stays.party; value = stays.value; wanted = wanted }) })
+  first_ends start reached last (Second final) is runs (inr stays) = absurd (subst (λ (c : OneOf X Y). Wants wants_first wants_second c stays.party stays.value (Second final)) is stays.wanted)
+
+  pub first_comes : FirstComes forgets_first replies_first wants_first forgets_second replies_second wants_second
+  first_comes start end came =
+      let stays = first_stays forgets_first replies_first forgets_second replies_second start came.runs.events came.last came.runs.run in
+      first_ends start stays.0 came.last end stays.1 (record { events = came.runs.events; run = stays.2 }) came.ends
+
+  -- the second
+  second_ends : (start reached : Y) (last end : OneOf X Y) → last ≡ Second reached → RunsTo forgets_second replies_second start reached → (end ≡ last) ⊎ Unanswered (Wants wants_first wants_second) last end
+      → (final : Y) × (end ≡ Second final) × CameTo forgets_second replies_second wants_second start final
+  second_ends start reached last end is runs (inl same) = (reached, same ∙ is, record { last = reached; runs = runs; ends = inl refl })
+  second_ends start reached last (Second final) is runs (inr stays) =
+      let wanted : wants_second reached stays.party stays.value final = subst (λ (c : OneOf X Y). Wants wants_first wants_second c stays.party stays.value (Second final)) is stays.wanted in
+      (final, refl, record { last = reached; runs = runs; ends = inr (record { party = stays.party; value = stays.value; wanted = wanted }) })
+  second_ends start reached last (First final) is runs (inr stays) = absurd (subst (λ (c : OneOf X Y). Wants wants_first wants_second c stays.party stays.value (First final)) is stays.wanted)
+
+  pub second_comes : SecondComes forgets_first replies_first wants_first forgets_second replies_second wants_second
+  second_comes start end came =
+      let stays = second_stays forgets_first replies_first forgets_second replies_second start came.runs.events came.last came.runs.run in
+      second_ends start stays.0 came.last end stays.1 (record { events = came.runs.events; run = stays.2 }) came.ends

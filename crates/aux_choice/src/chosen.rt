@@ -48,11 +48,13 @@ impl<P: Choice, X, Y> Chosen<P, X, Y> {
 }
 
 impl<P: Choice, X: Replier, Y: Replier> Replier for Chosen<P, X, Y> {
-    ghost use Rattle.aux_choice.specs.OneOf.{Forgets, Replies};
+    ghost use Rattle.aux_choice.specs.OneOf.{Forgets, Replies, Wants};
 
     ghost forgets = { λ old party new. Forgets X.forgets Y.forgets old party new };
 
     ghost replies = { λ old party value answer new. Replies X.replies Y.replies old party value answer new };
+
+    ghost wants = { λ old party value new. Wants X.wants Y.wants old party value new };
 
     fn forget(&mut self, party: u32) {
         match &mut self.one {

@@ -1,5 +1,5 @@
 -- Component files in a store: the protocol, and what it does to the store.
-use Rattle.std.specs.Prelude.{◌≡◌, ℕ, List, Option, Result, IfSome, IsSomeAnd}
+use Rattle.std.specs.Prelude.{◌≡◌, ◌≤◌, ℕ, List, Option, Result, IfSome, IsSomeAnd}
 use Rattle.apl_arrays.specs.Array.{PlainArray}
 use Rattle.apl_arrays.specs.Name.{name_order}
 use Rattle.apl_io.specs.Content.{Told, entry_of, Reads, Writes}
@@ -60,3 +60,8 @@ forgotten filed = record { store = filed.store; state = idle }
 -- what a store tells of its files is kept, though it may have had calls more
 abbrev pub KeepsFiles : Option (Told (List ℕ)) → Option (Told (List ℕ)) → Type 0
 KeepsFiles before now = IfSome before (λ old. IsSomeAnd now (λ new. (new.fails ≡ old.fails) × ((name : List ℕ) → entry_of name_order new name ≡ entry_of name_order old name)))
+
+module _ {T : Type 0} (told : T → Option (Told (List ℕ))) (faults : T → ℕ) where
+  -- where memory ran out over an answer: the protocol stands where it stood, the files are kept, and no fault is forgotten
+  abbrev pub StaysFiled : Filed T → Filed T → Type 0
+  StaysFiled old new = (new.state ≡ old.state) × KeepsFiles (told old.store) (told new.store) × (faults old.store ≤ faults new.store)

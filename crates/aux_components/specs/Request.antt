@@ -24,6 +24,7 @@ abbrev pub of_fields : (List ℕ → ℕ → Request) → Option (List ℕ × Li
 of_fields request None = other
 of_fields request (Some fields) = request_with_number (request fields.0) (number_of fields.1)
 
+-- a request whose name and number stand with a blank between
 abbrev pub numbered_request : (List ℕ → ℕ → Request) → List ℕ → Request
 numbered_request request line = of_fields request (cut_at_blank line)
 

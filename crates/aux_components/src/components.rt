@@ -2,7 +2,7 @@ ghost use Rattle.std.specs.Prelude.{◌≡◌, ◌≤◌, IfOk, OnErr};
 ghost use Rattle.std.specs.String.{string_bytes};
 ghost use Rattle.auxiliaries.specs.Protocol.{code};
 ghost use Rattle.aux_components.specs.Request.{request_of};
-ghost use Rattle.aux_components.specs.Filed.{IsAskedStep, IsChangeStep, IsReplaced, KeepsFiles, Replies, TakesStep, forgotten};
+ghost use Rattle.aux_components.specs.Filed.{IsAskedStep, IsChangeStep, IsReplaced, KeepsFiles, Replies, StaysFiled, TakesStep, forgotten};
 ghost use Rattle.aux_components.specs.Plain.{code_number};
 ghost use Rattle.aux_components.specs.Protocol.{request_step, step_ask, step_next, step_take, taking};
 
@@ -194,6 +194,8 @@ impl<T: TextStore> Replier for Components<T> {
     ghost forgets = { λ old party new. new ≡ forgotten old };
 
     ghost replies = { λ old party value answer new. Replies T.told T.faults old value answer new };
+
+    ghost wants = { λ old party value new. StaysFiled T.told T.faults old new };
 
     fn forget(&mut self, _party: u32) {
         Components::forget(self);

@@ -76,6 +76,7 @@ texts_taken from to (reply ∷ earlier) = texts_taken from to earlier ++ taken_b
 abbrev pub is_given : Reply → Bool
 is_given reply = is_done reply.answer && is_send (request_of reply.value)
 
+-- whether a reply gave a text that was asked for
 abbrev pub is_taken : Reply → Bool
 is_taken reply = is_chars reply.answer.items && is_take (request_of reply.value)
 

@@ -32,6 +32,7 @@ abbrev pub send_of : Option (List ℕ × List ℕ) → Request
 send_of None = other
 send_of (Some fields) = send_to (user_in fields.0) fields.1
 
+-- a request to send: a user's number, a blank, and the text
 abbrev pub send_in : List ℕ → Request
 send_in line = send_of (cut_at_blank line)
 
@@ -40,6 +41,7 @@ abbrev pub take_request : Option ℕ → Request
 take_request None = other
 take_request (Some user) = take_from user
 
+-- a request to take what a user sent
 abbrev pub take_in : List ℕ → Request
 take_in line = take_request (user_in line)
 

@@ -153,6 +153,8 @@ impl Replier for Relay {
 
     ghost replies = { λ old party value answer new. Relays old party value answer new };
 
+    ghost wants = { λ old party value new. new ≡ old };
+
     fn forget(&mut self, _party: u32) {}
 
     fn reply(&mut self, party: u32, value: &Array) -> Result<Array, WantOfMemory> {

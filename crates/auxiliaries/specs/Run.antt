@@ -1,5 +1,5 @@
 -- What a replier does over time.
-use Rattle.std.specs.Prelude.{◌≡◌, ℕ, List, [], ◌∷◌}
+use Rattle.std.specs.Prelude.{◌≡◌, ◌⊎◌, ℕ, List, [], ◌∷◌}
 use Rattle.apl_arrays.specs.Array.{PlainArray}
 
 -- what happens to a replier: a coupling with a party begins, or a party's value is answered
@@ -17,3 +17,20 @@ module _ {S : Type 0} (forgets : S → ℕ → S → Type 0) (replies : S → �
   abbrev pub IsReplierRun : S → List Event → S → Type 0
   IsReplierRun start [] end = end ≡ start
   IsReplierRun start (event ∷ earlier) end = (before : S) × IsReplierRun start earlier before × EventLeads event before end
+
+  -- some events lead from one state to another
+  pub record RunsTo (start end : S) : Type 0 where
+    pub events : List Event
+    pub run : IsReplierRun start events end
+
+-- memory ran out over the answer to some party's value
+pub record Unanswered {S : Type 0} (wants : S → ℕ → PlainArray → S → Type 0) (before after : S) : Type 0 where
+  pub party : ℕ
+  pub value : PlainArray
+  pub wanted : wants before party value after
+
+-- a replier came from one state to another by events, behind which memory may have run out over one more answer
+pub record CameTo {S : Type 0} (forgets : S → ℕ → S → Type 0) (replies : S → ℕ → PlainArray → PlainArray → S → Type 0) (wants : S → ℕ → PlainArray → S → Type 0) (start end : S) : Type 0 where
+  pub last : S
+  pub runs : RunsTo forgets replies start last
+  pub ends : (end ≡ last) ⊎ Unanswered wants last end

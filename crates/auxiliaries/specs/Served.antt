@@ -51,3 +51,8 @@ forgotten served = record { store = served.store; state = idle }
 -- what a store tells is kept, its places among it, though it may have had one call more
 abbrev pub KeepsFiles : Option (Told (List ℕ)) → Option (Told (List ℕ)) → Type 0
 KeepsFiles before now = IfSome before (λ old. IsSomeAnd now (λ new. (new.places ≡ old.places) × (new.fails ≡ old.fails) × ((new.calls ≡ old.calls) ⊎ (new.calls ≡ one_more old.calls)) × ((name : List ℕ) → entry_of name_order new name ≡ entry_of name_order old name)))
+
+module _ {T : Type 0} (told : T → Option (Told (List ℕ))) (faults : T → ℕ) where
+  -- where memory ran out over an answer: the protocol stands where it stood, the files are kept, and no fault is forgotten
+  abbrev pub StaysServed : Served T → Served T → Type 0
+  StaysServed old new = (new.state ≡ old.state) × KeepsFiles (told old.store) (told new.store) × (faults old.store ≤ faults new.store)

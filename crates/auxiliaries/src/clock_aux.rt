@@ -71,6 +71,8 @@ impl<C: Clock> Replier for ClockAux<C> {
 
     ghost replies = { λ old party value answer new. RepliesByReading C.told C.faults old value answer new };
 
+    ghost wants = { λ old party value new. new ≡ old };
+
     fn forget(&mut self, _party: u32) {}
 
     fn reply(&mut self, _party: u32, value: &Array) -> Result<Array, WantOfMemory> {

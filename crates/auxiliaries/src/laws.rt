@@ -5,9 +5,9 @@ ghost use Rattle.apl_io.specs.Content.{KeepsPlaces};
 ghost use Rattle.apl_io.specs.declared.store_error.StoreError.TheVariants.{Failed};
 ghost use Rattle.auxiliaries.specs.Request.{request_of, read, next, write, put, done, other};
 ghost use Rattle.auxiliaries.specs.File.{lines_in, IsText};
-ghost use Rattle.auxiliaries.specs.Run.{Event, began, answered, IsReplierRun};
+ghost use Rattle.auxiliaries.specs.Run.{CameTo, Event, began, answered, IsReplierRun, RunsTo};
 ghost use Rattle.auxiliaries.specs.Protocol.{protocol_step, answers, reads, replaces, no_request, idle, reading, writing, code, line_answer, no_line, AfterRead, AfterReplace};
-ghost use Rattle.auxiliaries.specs.Served.{Served, Replies, forgotten};
+ghost use Rattle.auxiliaries.specs.Served.{Served, Replies, StaysServed, forgotten};
 
 use crate::Replier;
 use apl_arrays::texts_are_read_in_one_way;
@@ -74,9 +74,19 @@ pub fn runs_go_on<R: Replier + Drop>()
         → R.replies before party value answer after → IsReplierRun R.forgets R.replies start (answered party value answer ∷ events) after }
 {}
 
-/// Files are asked for and replaced, and nothing else: the store of a text auxiliary is given no place. The call does
-/// nothing.
+/// A replier came to the end of each run of it, and from there to what stays where memory runs out over the next answer. The
+/// call does nothing.
+pub fn repliers_come<R: Replier + Drop>()
+    ensures runs { (start end : R) → RunsTo R.forgets R.replies start end → CameTo R.forgets R.replies R.wants start end }
+    ensures wants { (start last end : R) (party : ℕ) (value : PlainArray) → RunsTo R.forgets R.replies start last → R.wants last party value end
+        → CameTo R.forgets R.replies R.wants start end }
+{}
+
+/// Files are asked for and replaced, and nothing else: the store of a text auxiliary is given no place, also where
+/// memory runs out over an answer. The call does nothing.
 pub fn runs_give_no_place<T: TextStore>()
-    ensures { (start end : Served T) (events : List Event) → IsReplierRun (λ old party new. new ≡ forgotten old) (λ old party value answer new. Replies T.told T.faults old value answer new) start events end
+    ensures run { (start end : Served T) (events : List Event) → IsReplierRun (λ old party new. new ≡ forgotten old) (λ old party value answer new. Replies T.told T.faults old value answer new) start events end
+        → KeepsPlaces (T.told start.store) (T.told end.store) }
+    ensures came { (start end : Served T) → CameTo (λ old party new. new ≡ forgotten old) (λ old party value answer new. Replies T.told T.faults old value answer new) (λ old party value new. StaysServed T.told T.faults old new) start end
         → KeepsPlaces (T.told start.store) (T.told end.store) }
 {}

@@ -13,8 +13,8 @@ mod threads;
 
 pub use clock_aux::ClockAux;
 pub use laws::{
-    files_are_read_in_one_way, lines_as_they_stand, requests_as_written, runs_give_no_place,
-    runs_go_on, session_as_worked,
+    files_are_read_in_one_way, lines_as_they_stand, repliers_come, requests_as_written,
+    runs_give_no_place, runs_go_on, session_as_worked,
 };
 pub use replier::Replier;
 pub use text_aux::TextAux;

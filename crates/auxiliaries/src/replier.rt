@@ -1,4 +1,4 @@
-ghost use Rattle.std.specs.Prelude.{ℕ, IfOk};
+ghost use Rattle.std.specs.Prelude.{ℕ, IfOk, OnErr};
 ghost use Rattle.apl_arrays.specs.Array.{PlainArray};
 
 use apl_arrays::{Array, WantOfMemory};
@@ -11,11 +11,15 @@ pub trait Replier {
     /// The answers to this party's value, each with the state after it.
     ghost replies: { Self → ℕ → PlainArray → PlainArray → Self → Type 0 };
 
+    /// The states that may stay where memory ran out over the answer to this party's value.
+    ghost wants: { Self → ℕ → PlainArray → Self → Type 0 };
+
     /// Begins anew with this party.
     fn forget(&mut self, party: u32)
         ensures { forgets self.old party self.new };
 
     /// The answer to this party's value. It takes memory for the answer.
     fn reply(&mut self, party: u32, value: &Array) -> Result<Array, WantOfMemory>
-        ensures { IfOk result (λ answer. replies self.old party value.now answer self.new) };
+        ensures ok { IfOk result (λ answer. replies self.old party value.now answer self.new) }
+        ensures want { OnErr result (wants self.old party value.now self.new) };
 }

@@ -7,7 +7,7 @@ ghost use Rattle.auxiliaries.specs.File.{most_file_bytes};
 ghost use Rattle.line_text.specs.Lines.{line_text};
 ghost use Rattle.auxiliaries.specs.Plain.{plain_state, code_number, HasShortLines};
 ghost use Rattle.auxiliaries.specs.Protocol.{AfterRead, answers, reading, writing, code, step_read, step_next, step_write, step_put, step_done};
-ghost use Rattle.auxiliaries.specs.Served.{Replies, TakesStep, IsReadStep, IsReplaceStep, forgotten, KeepsFiles};
+ghost use Rattle.auxiliaries.specs.Served.{Replies, TakesStep, IsReadStep, IsReplaceStep, StaysServed, forgotten, KeepsFiles};
 
 use crate::Replier;
 use crate::answer::{Code, line_answer, no_line};
@@ -236,6 +236,8 @@ impl<T: TextStore> Replier for TextAux<T> {
     ghost forgets = { λ old party new. new ≡ forgotten old };
 
     ghost replies = { λ old party value answer new. Replies T.told T.faults old value answer new };
+
+    ghost wants = { λ old party value new. StaysServed T.told T.faults old new };
 
     fn forget(&mut self, _party: u32) {
         TextAux::forget(self);
