@@ -34,18 +34,20 @@ use std::process::ExitCode;
 use std::sync::Wait;
 use std::thread::Threads;
 use threads::{last_lines, meetings, one_journal};
-use trials::{meaningless, printed, refused};
+use trials::{judged, meaningless, printed, refused};
 
 // The tables of bundles and words.
 fn all_tables<R: Threads + Wait + Sync>(rt: &HostRuntime, threads: &R) -> Result<Tally> {
     let refused = |alloc, fields: &[&str]| refused(threads, alloc, fields);
     let printed = |alloc, fields: &[&str]| printed(threads, alloc, fields);
     let meaningless = |alloc, fields: &[&str]| meaningless(threads, alloc, fields);
+    let judged = |alloc, fields: &[&str]| judged(threads, alloc, fields);
     let mut tally = run_rows(rt, "refusals.txt", 1, refused)?;
     tally.add(run_rows(rt, "texts.txt", 1, printed)?);
     tally.add(run_rows(rt, "drawn.txt", 1, printed)?);
     tally.add(run_rows(rt, "drawn_commands.txt", 1, printed)?);
     tally.add(run_rows(rt, "words.txt", 1, meaningless)?);
+    tally.add(run_rows(rt, "verdicts.txt", 1, judged)?);
     Ok(tally)
 }
 

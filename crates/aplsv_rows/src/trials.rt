@@ -11,6 +11,9 @@ use std::thread::Threads;
 /// The words of a run of a bundle.
 pub const REPLAY: &str = "--replay";
 
+/// The word of a check.
+const CHECK: &str = "--check";
+
 // The ending of a run that is to write nothing.
 fn refusal_text(alloc: Global, ended: &ProgramEnd) -> Result<String> {
     let ending = ending_of(alloc, ended)?;
@@ -54,4 +57,17 @@ pub fn printed<R: Threads + Wait + Sync>(
         return Ok(ending);
     }
     Ok(String::from_str(alloc, str::from_utf8(&ended.written)?)?)
+}
+
+/// Texts behind a bundle, of which it is found whether they are its output: the input; the ending, and the line that is written.
+pub fn judged<R: Threads + Wait + Sync>(
+    threads: &R,
+    alloc: Global,
+    fields: &[&str],
+) -> Result<String> {
+    let input = bytes_of(alloc, *fields.first().context("an input is wanted")?)?;
+    let ended = run(threads, alloc, &sound_case(CHECK, &input))?;
+    let ending = ending_of(alloc, &ended)?;
+    let line = str::from_utf8(&ended.written)?;
+    Ok(format!(in alloc; "{ending}: {line}")?)
 }

@@ -161,6 +161,8 @@ impl Replier for Fixed {
 
     ghost replies = { λ old party value answer new. new ≡ old };
 
+    ghost wants = { λ old party value new. new ≡ old };
+
     fn forget(&mut self, _party: u32) {}
 
     fn reply(&mut self, _party: u32, _value: &Array) -> Result<Array, WantOfMemory> {
