@@ -19,7 +19,8 @@ use std::alloc::Global;
 const CHECK_LIMIT: usize = 67_108_864;
 
 /// What the program does for the one word `--check`: it reads a bundle, up to and including its first line `end`, and a text
-/// behind it, says in a line what `check` finds of them, and runs nothing. It is `Done` where the text is the output of a run of
+/// behind it, and says in a line what `check` finds of them: no thread runs and no device is asked, but each user's lines are
+/// evaluated alone with the printed answers, which takes what a replay takes. It is `Done` where the text is the output of a run of
 /// the bundle over its own files and readings and empty shelves, and `NotARun` where it is not; what is found is in both. Any
 /// other list of words is `Usage`, for which nothing is read. It takes the memory of the input and of the check. It returns for
 /// every source and sink.

@@ -22,7 +22,7 @@ use std::thread::Threads;
 /// The most workers: one for each party that there may be.
 const MOST_WORKERS: u32 = 34;
 
-/// What the program does. It reads a bundle to its end, runs it, and writes the transcripts and the journal: on threads, by as
+/// What the program does for all words but those among which `--check` stands. It reads a bundle to its end, runs it, and writes the transcripts and the journal: on threads, by as
 /// many workers as `--workers` says, and else by one for each party; or on one thread, in turns, for words among which `--replay`
 /// stands, of which it makes what `aplsv_replay_words` makes. However the threads run, where it is `Done` the journal written is
 /// one legal history, and each transcript is its user's lines evaluated alone with the answers that the journal gives that user

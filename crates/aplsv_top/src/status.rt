@@ -8,7 +8,7 @@ use std::fmt;
 /// How the program ended.
 #[derive(Clone, Copy, Debug, PartialEq, Eq)]
 pub enum Status {
-    /// The whole output was written.
+    /// The whole output was written; of a check, that the text is the output of a run.
     Done,
     /// The words have no meaning.
     Usage,
@@ -18,7 +18,7 @@ pub enum Status {
     ReadFault,
     /// The sink failed.
     WriteFault,
-    /// There were more bytes than a bundle may have.
+    /// There were more bytes than a bundle may have, or for a check than a bundle with a text behind it may.
     TooLong,
     /// Memory ran out.
     WantOfMemory,

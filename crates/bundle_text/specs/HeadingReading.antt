@@ -57,16 +57,19 @@ read_end line = do
   rest ← read_literal (codes "end") line
   Ok (end_heading, rest)
 
--- u, o, f and c
+-- u
 abbrev pub small_u : ℕ
 small_u = 117
 
+-- o
 abbrev pub small_o : ℕ
 small_o = 111
 
+-- f
 abbrev pub small_f : ℕ
 small_f = 102
 
+-- c
 abbrev pub small_c : ℕ
 small_c = 99
 

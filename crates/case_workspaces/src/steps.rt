@@ -43,7 +43,8 @@ fn fill_one(alloc: Global, ws: &mut Workspace, number: u32, left: usize) -> Resu
     assign(ws, &name, zeros(alloc, u32::try_from(count)?)?)
 }
 
-// Assigns zeros to names W0, W1 and so on until the workspace weighs so much. A value weighs 1 and its items.
+// Assigns zeros to names that are a W and a number, from 0 on, until the workspace weighs so much. A value weighs 1 and its
+// items.
 fn fill(alloc: Global, ws: &mut Workspace, weight: usize) -> Result<Outcome> {
     for number in 0..300_u32 {
         let left = weight.saturating_sub(ws.weight());

@@ -82,5 +82,6 @@ pub record TakesLeavesAlone (before : Entries) (e : PlainEntry) : Type 0 where
   pub leave : IsTrue (is_full before) → IsTrue (is_leave e.act)
   pub entered : e.answer ≢ full
 
+-- a full journal takes leaves alone
 abbrev pub FullJournalsTakeLeavesAlone : Entries → Type 0
 FullJournalsTakeLeavesAlone journal = (e : PlainEntry) (before : Entries) → IsMade journal e before → TakesLeavesAlone before e

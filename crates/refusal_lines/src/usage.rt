@@ -11,7 +11,7 @@ Its words:
   --clock        reads the clock of the machine, and leaves the readings of the bundle aside
   --components   keeps files of arrays behind party 20, in the place of files of lines
   --relay        carries texts between users behind party 10, in the place of telling the time
-  --check        reads a bundle and behind it a text, runs nothing, and says whether the text is the output of a run of the bundle
+  --check        reads a bundle and behind it a text, and says whether the text is the output of a run of the bundle
 Each stands once at most, in any order, --check alone, and one of --replay, --workers and --load alone. N is from 1 to 34 for workers and from
 1 to 100000 for a load, without a sign or a 0 in front.
 DIR is not empty. A value is the next word, and then begins with no -, or it follows =.

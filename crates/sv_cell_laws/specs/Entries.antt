@@ -31,11 +31,13 @@ RetractionsOfNoneTouchNothing =
     (journal : Entries) (party : ℕ) (act : Act) (local : List ℕ) → (act_row act).row.ends ≡ Some (One local) → own_offer (standing journal) party local ≡ None →
     TouchesNothing journal (entry_for journal party act)
 
+-- a control of a name that does not stand touches nothing
 abbrev pub ControlsOfNoneTouchNothing : Type 0
 ControlsOfNoneTouchNothing =
     (journal : Entries) (party : ℕ) (act : Act) (set : Controlling) → (act_row act).row.controls ≡ Some set → own_offer (standing journal) party set.local ≡ None →
     TouchesNothing journal (entry_for journal party act)
 
+-- an access of a name that does not stand touches nothing
 abbrev pub AccessesOfNoneTouchNothing : Type 0
 AccessesOfNoneTouchNothing =
     (journal : Entries) (party : ℕ) (act : Act) (access : Accessing) → (act_row act).row.accesses ≡ Some access → own_offer (standing journal) party access.local ≡ None →
@@ -47,6 +49,7 @@ OffersAgainTouchNothing =
     (journal : Entries) (party : ℕ) (act : Act) (opening : Opening) (old : Standing) → (act_row act).row.opens ≡ Some opening →
     own_offer (standing journal) party opening.local ≡ Some old → TouchesNothing journal (entry_for journal party act)
 
+-- an offer past the limit of a party touches nothing
 abbrev pub OffersPastTheLimitTouchNothing : Type 0
 OffersPastTheLimitTouchNothing =
     (journal : Entries) (party : ℕ) (act : Act) (opening : Opening) → (act_row act).row.opens ≡ Some opening → own_offer (standing journal) party opening.local ≡ None →
@@ -72,6 +75,7 @@ SetsAreMade =
     own_offer (standing journal) party access.local ≡ Some own → hold_on journal access.kind (Some own) ≡ None → (act_row act).hands_in ≡ Some v →
     MakesAccess journal (entry_for journal party act) own (set_access v)
 
+-- a use that is not refused is made
 abbrev pub UsesAreMade : Type 0
 UsesAreMade =
     (journal : Entries) (party : ℕ) (act : Act) (access : Accessing) (own : Standing) → (act_row act).row.accesses ≡ Some access → access.kind ≡ kind.Use →

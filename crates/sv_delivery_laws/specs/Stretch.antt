@@ -77,9 +77,11 @@ pub record Stretch : Type 0 where
 abbrev pub story_before : Stretch → Story PlainArray
 story_before stretch = story_then stretch.giver stretch.before stretch.coupling
 
+-- what a stretch adds to the story
 abbrev pub story_in : Stretch → Story PlainArray
 story_in stretch = added_in stretch.giver stretch.entries stretch.before stretch.coupling
 
+-- the story at the end of a stretch
 abbrev pub story_after : Stretch → Story PlainArray
 story_after stretch = story_then stretch.giver (stretch.entries ++ stretch.before) stretch.coupling
 

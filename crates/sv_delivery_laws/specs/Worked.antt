@@ -17,10 +17,11 @@ use Rattle.sv_delivery_laws.specs.Stretch.{Stretch}
 abbrev pub users : List ℕ
 users = 1001 ∷ 1002 ∷ 1003 ∷ []
 
--- X, and a number as a value
+-- X
 abbrev pub x : List ℕ
 x = codes "X"
 
+-- a number as a value
 abbrev pub number_value : ℕ → PlainArray
 number_value n = scalar (pos n)
 
@@ -28,9 +29,11 @@ number_value n = scalar (pos n)
 abbrev pub all_four : Control
 all_four = four_elements true true true true
 
+-- a set by me and a use by the partner are controlled
 abbrev pub first_and_fourth : Control
 first_and_fourth = four_elements true false false true
 
+-- a set by the partner and a use by me are controlled
 abbrev pub second_and_third : Control
 second_and_third = four_elements false true true false
 
@@ -38,6 +41,7 @@ second_and_third = four_elements false true true false
 abbrev pub offers_x : ℕ → ℕ → Option PlainArray → PlainEntry
 offers_x party to handed = uncoupled party (Offer to x x handed) (degree 1)
 
+-- a party offers X, and is coupled at once
 abbrev pub joins : ℕ → ℕ → Option PlainArray → ℕ → ℕ → PlainEntry
 joins party to handed a b = record { party = party; act = Offer to x x handed; answer = degree 2; made = record { a = a; b = b } ∷ [] }
 
@@ -45,16 +49,19 @@ joins party to handed a b = record { party = party; act = Offer to x x handed; a
 abbrev pub leaves_two : ℕ → ℕ → ℕ → PlainEntry
 leaves_two party a b = record { party = party; act = Leave; answer = done; made = record { a = a; b = b } ∷ [] }
 
--- a set and a use of X; a set that is held by the party's own vector; and a control that then is in force
+-- a set of X
 abbrev pub sets_x : ℕ → ℕ → PlainEntry
 sets_x party n = uncoupled party (Set x (number_value n)) granted
 
+-- a use of X that gives a number
 abbrev pub uses_x : ℕ → ℕ → PlainEntry
 uses_x party n = uncoupled party (Use x) (value (number_value n))
 
+-- a set of X that is held by the party's own vector
 abbrev pub set_is_held : ℕ → ℕ → PlainEntry
 set_is_held party n = uncoupled party (Set x (number_value n)) (held (record { element = 1; owners = Mine }))
 
+-- a control of X that is in force then
 abbrev pub controls_x : ℕ → Control → PlainEntry
 controls_x party control = uncoupled party (SetControl x control) (vector control)
 
@@ -87,6 +94,7 @@ set_over_unseen = shared_under all_four (sets_x 1001 1 ∷ sets_x 1002 9 ∷ use
 abbrev pub ends_unseen : Stretch
 ends_unseen = shared_under all_four (sets_x 1001 1 ∷ sets_x 1002 9 ∷ uses_x 1001 9 ∷ sets_x 1001 2 ∷ [])
 
+-- the stretch behind its first use
 abbrev pub seen_later : Entries
 seen_later = uses_x 1002 2 ∷ []
 
@@ -94,6 +102,7 @@ seen_later = uses_x 1002 2 ∷ []
 abbrev pub before_a_partner : Entries
 before_a_partner = reverse (offers_x 1001 1002 None ∷ controls_x 1001 first_and_fourth ∷ [])
 
+-- a stretch that begins while 1001 has no partner
 abbrev pub begins_alone : Stretch
 begins_alone = record {
   entries = reverse (sets_x 1001 1 ∷ set_is_held 1001 2 ∷ joins 1002 1001 None 1 5 ∷ uses_x 1002 1 ∷ sets_x 1001 2 ∷ uses_x 1002 2 ∷ []);
@@ -106,6 +115,7 @@ begins_alone = record {
 abbrev pub ends_alone : Stretch
 ends_alone = record begins_alone { entries = sets_x 1001 1 ∷ [] }
 
+-- that stretch up to where the partner comes
 abbrev pub joined_later : Entries
 joined_later = reverse (set_is_held 1001 2 ∷ joins 1002 1001 None 1 5 ∷ uses_x 1002 1 ∷ sets_x 1001 2 ∷ uses_x 1002 2 ∷ [])
 
@@ -113,9 +123,11 @@ joined_later = reverse (set_is_held 1001 2 ∷ joins 1002 1001 None 1 5 ∷ uses
 abbrev pub until_retracted : Entries
 until_retracted = reverse (offers_x 1001 1002 None ∷ joins 1002 1001 None 1 2 ∷ sets_x 1001 1 ∷ [])
 
+-- 1002 retracts X once its control is set
 abbrev pub since_retracted : Entries
 since_retracted = reverse (retracts 1002 ∷ controls_x 1001 first_and_fourth ∷ [])
 
+-- a stretch on an offer that opened again
 abbrev pub opens_again : Stretch
 opens_again = record {
   entries = reverse (joins 1002 1001 None 1 6 ∷ uses_x 1002 1 ∷ sets_x 1001 2 ∷ uses_x 1002 2 ∷ []);
@@ -158,6 +170,7 @@ set_twice control one other = shared_under control (sets_x one 1 ∷ sets_x one 
 abbrev pub used_twice : Control → ℕ → ℕ → Stretch
 used_twice control one other = shared_under control (sets_x one 1 ∷ uses_x other 1 ∷ uses_x other 1 ∷ [])
 
+-- both uses are controlled
 abbrev pub third_and_fourth : Control
 third_and_fourth = four_elements false false true true
 
@@ -165,12 +178,15 @@ third_and_fourth = four_elements false false true true
 abbrev pub only_first : Control
 only_first = four_elements true false false false
 
+-- a set by the partner alone is controlled
 abbrev pub only_second : Control
 only_second = four_elements false true false false
 
+-- a use by me alone is controlled
 abbrev pub only_third : Control
 only_third = four_elements false false true false
 
+-- a use by the partner alone is controlled
 abbrev pub only_fourth : Control
 only_fourth = four_elements false false false true
 

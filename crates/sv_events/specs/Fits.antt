@@ -32,6 +32,7 @@ abbrev pub answers_leave : AnswerKind → Bool
 answers_leave answer.Done = true
 answers_leave _ = false
 
+-- those to an act that ends offers, one or all
 abbrev pub answers_ending : Option Ending → AnswerKind → Bool
 answers_ending None of = false
 answers_ending (Some (One local)) of = answers_retraction of
@@ -60,27 +61,32 @@ answers_use answer.Abandoned = true
 answers_use answer.NotShared = true
 answers_use _ = false
 
+-- those to an access of a kind
 abbrev pub answers_access_of : Kind → AnswerKind → Bool
 answers_access_of kind.Set of = answers_set of
 answers_access_of kind.Use of = answers_use of
 
+-- those to an act that makes an access
 abbrev pub answers_access : Option Accessing → AnswerKind → Bool
 answers_access None of = false
 answers_access (Some access) of = answers_access_of access.kind of
 
--- a vector, a degree, parties, names
+-- a vector
 abbrev pub is_vector : AnswerKind → Bool
 is_vector answer.Vector = true
 is_vector _ = false
 
+-- a degree
 abbrev pub is_degree : AnswerKind → Bool
 is_degree answer.Degree = true
 is_degree _ = false
 
+-- parties
 abbrev pub are_parties : AnswerKind → Bool
 are_parties answer.Parties = true
 are_parties _ = false
 
+-- names
 abbrev pub are_names : AnswerKind → Bool
 are_names answer.Names = true
 are_names _ = false
@@ -125,5 +131,6 @@ is_hold_in_range (Some hold) = nat_le 1 hold.element && nat_le hold.element 4
 abbrev pub fits_row : ActRow → AnswerRow → Bool
 fits_row act given = is_degree_in_range given.degree && is_hold_in_range given.hold && fits_kind act given.kind
 
+-- an answer is one of those that fit an act
 abbrev pub answer_fits : Act → PlainAnswer → Bool
 answer_fits act given = fits_row (act_row act).row (answer_row given).row

@@ -29,6 +29,7 @@ read_party line = do
 abbrev pub OfferParts : Type 0
 OfferParts = ℕ × List ℕ × List ℕ × Option PlainArray
 
+-- the offer of these parts
 abbrev pub make_offer : OfferParts → Act
 make_offer parts = act.Offer parts.0 parts.1 parts.2 parts.3
 
@@ -41,6 +42,7 @@ read_offer_parts line = do
   handed ← read_value rest
   Ok ((to.0, local.0, surrogate.0, handed.0), handed.1)
 
+-- an offer, behind its word
 abbrev pub read_offer : Reader Act
 read_offer line = as_read make_offer (read_offer_parts line)
 
@@ -51,6 +53,7 @@ read_set_control_parts line = do
   control ← read_control local.1
   Ok ((local.0, control.0), control.1)
 
+-- the setting of a control, behind its word
 abbrev pub read_set_control : Reader Act
 read_set_control line = as_read (λ parts. act.SetControl parts.0 parts.1) (read_set_control_parts line)
 
@@ -62,6 +65,7 @@ read_set_parts line = do
   new ← read_array rest
   Ok ((local.0, new.0), new.1)
 
+-- a set, behind its word
 abbrev pub read_set : Reader Act
 read_set line = as_read (λ parts. act.Set parts.0 parts.1) (read_set_parts line)
 

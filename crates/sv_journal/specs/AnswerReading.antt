@@ -50,6 +50,7 @@ read_kept_parts line = do
   known ← read_value rest
   Ok ((before.0, known.0), known.1)
 
+-- what a retraction answers, behind its word
 abbrev pub read_kept : Reader PlainAnswer
 read_kept line = as_read (λ parts. kept parts.0 parts.1) (read_kept_parts line)
 

@@ -21,6 +21,7 @@ read_bit line = do
 abbrev pub Bits : Type 0
 Bits = Bool × Bool × Bool × Bool
 
+-- the control of four bits
 abbrev pub control_of : Bits → Control
 control_of bits = four_elements bits.0 bits.1 bits.2 bits.3
 
@@ -32,6 +33,7 @@ read_bits line = do
   fourth ← read_bit third.1
   Ok ((first.0, second.0, third.0, fourth.0), fourth.1)
 
+-- a control of four elements
 abbrev pub read_control : Reader Control
 read_control line = as_read control_of (read_bits line)
 

@@ -52,6 +52,7 @@ after_set_in (Alone value) side new = Alone value
 after_set_in (Shared share) side new = Shared (after_set share side new)
 after_set_in Lent side new = Lent
 
+-- what the content of a cell is after a use by a side
 abbrev pub after_use_in : CellContent → Side → CellContent
 after_use_in (Alone value) side = Alone value
 after_use_in (Shared share) side = Shared (after_get share side (shared_value share))

@@ -35,5 +35,6 @@ abbrev pub state_with_both : AccessState → Coupling → PlainEntry → AccessS
 state_with_both before coupling e =
     state_with (state_with before B (option_map (λ access. access.kind) (access_on coupling.b e))) A (option_map (λ access. access.kind) (access_on coupling.a e))
 
+-- the last value set once an entry made its accesses on both sides
 abbrev pub value_with_both : Option PlainArray → Coupling → PlainEntry → Option PlainArray
 value_with_both before coupling e = value_with (value_with before (access_on coupling.b e)) (access_on coupling.a e)

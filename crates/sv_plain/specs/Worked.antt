@@ -19,6 +19,7 @@ two_users = 1001 ∷ 1002 ∷ []
 abbrev pub three_users : List ℕ
 three_users = 1001 ∷ 1002 ∷ 1003 ∷ []
 
+-- a run with one user
 abbrev pub one_user : List ℕ
 one_user = 1001 ∷ []
 
@@ -46,23 +47,27 @@ x = codes "X"
 abbrev pub offer_x : ℕ → Option PlainArray → Act
 offer_x to handed = Offer to x x handed
 
--- a set and a use of X, and a leave
+-- a set of X
 abbrev pub set_x : ℕ → ℕ → PlainAnswer → PlainEntry
 set_x party n answer = uncoupled party (Set x (number_value n)) answer
 
+-- a use of X
 abbrev pub use_x : ℕ → PlainAnswer → PlainEntry
 use_x party answer = uncoupled party (Use x) answer
 
+-- a leave
 abbrev pub left : ℕ → PlainEntry
 left party = uncoupled party Leave done
 
--- a value, a hold, and a hold that is given up
+-- a value
 abbrev pub answered_value : ℕ → PlainAnswer
 answered_value n = value (number_value n)
 
+-- a hold
 abbrev pub holds : ℕ → Owners → PlainAnswer
 holds element owners = held (record { element = element; owners = owners })
 
+-- a hold that is given up
 abbrev pub gives_up : ℕ → Owners → PlainAnswer
 gives_up element owners = abandoned (record { element = element; owners = owners })
 

@@ -13,9 +13,11 @@ use Rattle.sv_plain.specs.WorkedAuxiliary.{text}
 abbrev pub t : List ℕ
 t = codes "T"
 
+-- what the text files call T
 abbrev pub s3 : List ℕ
 s3 = codes "S3"
 
+-- M
 abbrev pub m : List ℕ
 m = codes "M"
 
@@ -31,6 +33,7 @@ controls_all party local = uncoupled party (SetControl local (bits 1 1 1 1)) (ve
 abbrev pub sets : ℕ → List ℕ → PlainArray → PlainEntry
 sets party local new = uncoupled party (Set local new) granted
 
+-- a use that gives a value
 abbrev pub uses : ℕ → List ℕ → PlainArray → PlainEntry
 uses party local old = uncoupled party (Use local) (value old)
 

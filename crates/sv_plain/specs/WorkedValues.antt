@@ -18,6 +18,7 @@ use_without_a_value = reverse (uncoupled 1001 (offer_x 1002 None) (degree 1) ∷
 abbrev pub a : List ℕ
 a = codes "A"
 
+-- B
 abbrev pub b : List ℕ
 b = codes "B"
 

@@ -31,15 +31,17 @@ is_leave act = ends_all (act_row act).row.ends
 abbrev pub kind_of : PlainAnswer → AnswerKind
 kind_of given = (answer_row given).row.kind
 
--- a grant, a value, a hold
+-- a grant
 abbrev pub is_granted : AnswerKind → Bool
 is_granted answer.Granted = true
 is_granted _ = false
 
+-- a value
 abbrev pub is_value : AnswerKind → Bool
 is_value answer.Value = true
 is_value _ = false
 
+-- a hold
 abbrev pub is_held : AnswerKind → Bool
 is_held answer.Held = true
 is_held _ = false

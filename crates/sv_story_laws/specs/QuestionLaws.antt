@@ -37,6 +37,7 @@ pub record TellsState (journal : Entries) (e : PlainEntry) (local : List ℕ) : 
   pub alone : (offer : Standing) → IsOwn journal e.party local offer → coupling_now journal offer.place ≡ None → e.answer ≡ vector no_control
   pub none : HasNoOffer journal e.party local → e.answer ≡ vector no_control
 
+-- the degree is that of the offer, and 0 where none stands
 pub record TellsDegree (journal : Entries) (e : PlainEntry) (local : List ℕ) : Type 0 where
   pub stands : (offer : Standing) → IsOwn journal e.party local offer → (d : ℕ) × (e.answer ≡ degree d) × HasDegree journal offer d
   pub none : HasNoOffer journal e.party local → e.answer ≡ degree 0
@@ -62,16 +63,20 @@ pub record AreNamesOf (journal : Entries) (to from : ℕ) (offers : List Standin
 abbrev pub QuestionsOfControl : Type 0
 QuestionsOfControl = (users : List ℕ) (journal : Entries) (e : PlainEntry) → IsLegal users (e ∷ journal) → (local : List ℕ) → e.act ≡ AskControl local → TellsControl journal e local
 
+-- a question about a state is answered by the state
 abbrev pub QuestionsOfState : Type 0
 QuestionsOfState = (users : List ℕ) (journal : Entries) (e : PlainEntry) → IsLegal users (e ∷ journal) → (local : List ℕ) → e.act ≡ AskState local → TellsState journal e local
 
+-- a question about a degree is answered by the degree
 abbrev pub QuestionsOfDegree : Type 0
 QuestionsOfDegree = (users : List ℕ) (journal : Entries) (e : PlainEntry) → IsLegal users (e ∷ journal) → (local : List ℕ) → e.act ≡ AskDegree local → TellsDegree journal e local
 
+-- a question about parties is answered by those with open offers
 abbrev pub QuestionsOfParties : Type 0
 QuestionsOfParties =
     (users : List ℕ) (journal : Entries) (e : PlainEntry) → IsLegal users (e ∷ journal) → e.act ≡ AskParties → (numbers : List ℕ) × (e.answer ≡ parties numbers) × AreParties journal e.party numbers
 
+-- a question about names is answered by the names that a party offers
 abbrev pub QuestionsOfNames : Type 0
 QuestionsOfNames =
     (users : List ℕ) (journal : Entries) (e : PlainEntry) → IsLegal users (e ∷ journal) → (from : ℕ) → e.act ≡ AskNames from →

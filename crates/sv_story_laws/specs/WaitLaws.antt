@@ -37,6 +37,7 @@ pub record IsHeldOrGivenUp (users : List ℕ) (journal : Entries) (e : PlainEntr
   pub given_up : (hold : Hold) → (e.answer ≡ abandoned hold) ↔ ((refused journal e.party e.act ≡ Some hold) × IsTrue (waits journal e.party))
   pub stuck : (hold : Hold) → e.answer ≡ abandoned hold → IsTrue (is_stuck users journal)
 
+-- each entry of a legal journal holds, or gives up, as it may
 abbrev pub HoldsAreGivenOrGivenUp : Type 0
 HoldsAreGivenOrGivenUp = (users : List ℕ) (journal : Entries) (e : PlainEntry) → IsLegal users (e ∷ journal) → IsHeldOrGivenUp users journal e
 
@@ -46,6 +47,7 @@ pub record IsStuck (users : List ℕ) (journal : Entries) : Type 0 where
   pub all : (user : ℕ) → Contains users user → IsTrue (not (has_left journal user)) → IsTrue (is_some (still_refused journal user))
   pub idle : (kind : AuxiliaryKind) → work_of journal (party_of kind) ≡ Idle
 
+-- a journal is stuck exactly where nobody can go on
 abbrev pub StuckIsWhereNobodyCanGoOn : Type 0
 StuckIsWhereNobodyCanGoOn = (users : List ℕ) (journal : Entries) → IsTrue (is_stuck users journal) ↔ IsStuck users journal
 

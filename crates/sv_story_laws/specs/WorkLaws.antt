@@ -122,9 +122,11 @@ HoldsOfNone journal holds = (offer : Standing) → Contains (standing journal) o
 abbrev pub LacksControl : Entries → ℕ → Standing → Type 0
 LacksControl journal party = IsOwnCoupled journal party (λ offer coupling. IsTrue (lacks_control journal offer coupling))
 
+-- the party's offer is coupled, and it owes a reply
 abbrev pub OwesReply : Entries → ℕ → Standing → Type 0
 OwesReply journal party = IsOwnCoupled journal party (λ offer coupling. IsTrue (owes_reply journal offer coupling))
 
+-- the party's offer is coupled, and it has not seen a set of the partner
 abbrev pub HasUnseen : Entries → ℕ → Standing → Type 0
 HasUnseen journal party = IsOwnCoupled journal party (λ offer coupling. IsTrue (has_unseen journal offer coupling))
 
@@ -162,5 +164,6 @@ pub record TellsParties (journal : Entries) (party : ℕ) : Type 0 where
   pub ascend : Ascend (parties_to journal party)
   pub those : (from : ℕ) → Contains (parties_to journal party) from ↔ ((offer : Standing) × Contains (open_to journal party) offer × (offer.party ≡ from))
 
+-- each question tells the parties so
 abbrev pub QuestionsTellParties : Type 0
 QuestionsTellParties = (journal : Entries) (party : ℕ) → TellsParties journal party

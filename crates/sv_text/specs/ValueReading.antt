@@ -101,13 +101,15 @@ read_chars_array line = do
   chars ← read_quoted (element_count shape.0) shape.1
   Ok (char_array shape.0 chars.0, chars.1)
 
--- N, C and n
+-- N
 abbrev pub letter_n : ℕ
 letter_n = 78
 
+-- C
 abbrev pub letter_c : ℕ
 letter_c = 67
 
+-- n
 abbrev pub small_n : ℕ
 small_n = 110
 

@@ -15,8 +15,8 @@ Reading V = Result (V × List ℕ) ℕ
 abbrev pub Reader : Type 0 → Type 0
 Reader V = List ℕ → Reading V
 
--- one reading after another
 infixl 10 ◌>>=◌
+-- one reading after another
 abbrev pub ◌>>=◌ : {A B : Type 0} → Result A ℕ → (A → Result B ℕ) → Result B ℕ
 (Ok x) >>= f = f x
 (Err left) >>= f = Err left

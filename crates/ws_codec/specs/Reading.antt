@@ -13,8 +13,8 @@ Reading V = Result (V × List ℕ) Flaw
 abbrev pub Reader : Type 0 → Type 0
 Reader V = List ℕ → Reading V
 
--- one reading after another
 infixl 10 ◌>>=◌
+-- one reading after another
 abbrev pub ◌>>=◌ : {A B : Type 0} → Result A Flaw → (A → Result B Flaw) → Result B Flaw
 (Ok x) >>= f = f x
 (Err flaw) >>= f = Err flaw
