@@ -12,6 +12,7 @@ pub mod laws;
 mod lookup;
 mod numbers;
 mod places;
+mod sides;
 mod spans;
 
 pub use decoding::decode;

@@ -4,6 +4,7 @@ pub mod CompressLemmas
 pub mod ExpandLemmas
 pub mod FaultLemmas
 pub mod FlagLaws
+pub mod FlaggedLemmas
 pub mod GivenBackLemmas
 pub mod IndexLemmas
 pub mod JoinKindLemmas
@@ -15,6 +16,7 @@ pub mod JoinShapeLemmas
 pub mod ListingLemmas
 pub mod MoveLemmas
 pub mod NamingLemmas
+pub mod NoFlagLemmas
 pub mod OrderLemmas
 pub mod PickLemmas
 pub mod PointLemmas

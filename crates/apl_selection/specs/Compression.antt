@@ -1,8 +1,10 @@
-use Rattle.std.specs.Prelude.{◌||◌, ◌==◌, ℕ, ℤ, Bool, List, Option, Some, length, map, filter, if◌then◌else◌}
+use Rattle.std.specs.Prelude.{◌||◌, ◌==◌, ℕ, ℤ, pos, Bool, List, Option, Some, length, map, filter, if◌then◌else◌}
 use Rattle.apl_arrays.specs.declared.way.Way.{Way}
-use Rattle.apl_arrays.specs.Array.{PlainArray, item_count, numbers_in}
+use Rattle.apl_arrays.specs.Array.{PlainArray, PlainItems, numbers, chars, item_count, numbers_in}
+use Rattle.apl_arrays.specs.Glyph.{blank}
 use Rattle.apl_items.specs.Answers.{ArrayResult, Faults}
 use Rattle.apl_items.specs.Extension.{number_at, place_in}
+use Rattle.apl_items.specs.Moves.{item_or}
 use Rattle.apl_items.specs.Places.{places}
 use Rattle.apl_arrays.specs.Number.{is_one}
 use Rattle.apl_selection.specs.Flags.{flag_faults}
@@ -31,3 +33,12 @@ compress_faults a b way axis = flag_faults a b axis (flags_meet (item_count a.it
 -- the items of B along the last axis, the first or K, where A has 1
 abbrev pub compress_of : PlainArray → PlainArray → Way → Option ℤ → ArrayResult
 compress_of a b way axis = listed_of (compress_faults a b way axis) b (meant_axis b way axis) (kept_places (numbers_in a.items) (meant_length b way axis))
+
+-- the items of a list at kept places
+abbrev pub list_at : {T : Type 0} → T → List T → List (Option ℕ) → List T
+list_at fill list kept = map (item_or fill list) kept
+
+-- the items of either kind at kept places
+abbrev pub items_at : PlainItems → List (Option ℕ) → PlainItems
+items_at (numbers list) kept = numbers (list_at (pos 0) list kept)
+items_at (chars list) kept = chars (list_at blank list kept)

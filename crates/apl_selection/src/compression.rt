@@ -4,6 +4,7 @@ ghost use Rattle.apl_items.specs.Answers.{Answers, AnswersFirst, first_report};
 ghost use Rattle.apl_items.specs.Places.{OnWantOfMemory};
 ghost use Rattle.apl_selection.specs.Compression.{compress_faults, compress_of, flagged_length, flags_meet, kept_places};
 
+use crate::flagged::flagged_vector;
 use crate::flags::{flags_report, is_one};
 use crate::listing::{listed_of, listing_fail, meant_axis, meant_length, place_in};
 use apl_arrays::{Array, Fail, WantOfMemory, Way};
@@ -13,8 +14,8 @@ use std::alloc::Global;
 /// The items of B along an axis, the last or the first where none is named, where A has 1. A lone flag is for each place of
 /// the axis, a lone place is for each flag, and a scalar B is a vector of one item. RANK where A is of rank over 1, else
 /// LENGTH where A has not as many flags as the axis has places, else DOMAIN where it holds something else than 0 and 1, else
-/// INDEX where the axis is not from 1 to the rank, else WS FULL, each also where there is no memory. It takes memory for a list
-/// of places and the result.
+/// INDEX where the axis is not from 1 to the rank, else WS FULL, each also where there is no memory. It takes memory for the
+/// result, and for a list of places where B is no vector of as many items as A has.
 pub fn compress(
     alloc: Global,
     a: &Array,
@@ -40,8 +41,31 @@ fn flags_meet(a: &Array, long: usize) -> bool
     flags == 1 || long == 1 || flags == long
 }
 
-/// The items along an axis where A has 1.
+/// The items along an axis where A has 1: of a vector with as many items as flags, at once.
 fn compressed(
+    alloc: Global,
+    a: &Array,
+    b: &Array,
+    way: Way,
+    axis: Option<i64>,
+) -> Result<Array, Fail>
+    requires none { None ≡ first_report (compress_faults a.now b.now way axis) }
+    requires array { IsArray a.now }
+    ensures { AnswersFirst result (compress_of a.now b.now way axis) }
+{
+    let flags = a.numbers();
+    let items = b.items();
+    if b.shape().len() != 1 || flags.len() != items.len() {
+        return compressed_along(alloc, a, b, way, axis);
+    }
+    match flagged_vector(alloc, flags, items) {
+        Ok(array) => Ok(array),
+        Err(WantOfMemory) => Err(Fail::WantOfMemory),
+    }
+}
+
+/// The items along an axis where A has 1, by a list of the places.
+fn compressed_along(
     alloc: Global,
     a: &Array,
     b: &Array,

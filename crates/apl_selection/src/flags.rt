@@ -34,11 +34,17 @@ pub(crate) fn lacks_flags(a: &Array) -> bool
     a.is_chars() || has_no_flag(a.numbers())
 }
 
-/// Whether a number is neither 0 nor 1.
+/// Whether one of some numbers is neither 0 nor 1. It looks at all of them, also past the first that is.
 fn has_no_flag(numbers: &[i64]) -> bool
     ensures { result ≡ list_any is_no_flag numbers.now }
 {
-    numbers.iter().any(|number| is_no_flag(*number))
+    let mut wrong = false;
+    for number in numbers {
+        if is_no_flag(*number) {
+            wrong = true;
+        }
+    }
+    wrong
 }
 
 /// Whether a number is neither 0 nor 1.

@@ -6,6 +6,7 @@ mod assignment;
 mod catenation;
 mod compression;
 mod expansion;
+mod flagged;
 mod flags;
 mod indexing;
 pub mod laws;
