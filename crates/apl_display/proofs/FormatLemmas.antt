@@ -1,6 +1,7 @@
 -- The shape and the characters of an array of numbers of rank 2 or more that has elements.
-use Rattle.std.proofs.Common.{◌≡◌, ◌==◌, ℕ, zero, suc, ◌+◌, ◌-◌, ◌*◌, ◌^◌, ◌<◌, ◌≤◌, ℤ, List, [], ◌∷◌, ◌++◌, length, get_or, take, drop, map, min, max, sum, fold, ltb, sym, ap, ◌∙◌, subst, arith, if◌then◌else◌, length-append, add-one}
+use Rattle.std.proofs.Common.{◌≡◌, ◌==◌, ℕ, zero, suc, ◌+◌, ◌-◌, ◌*◌, ◌^◌, ◌<◌, ◌≤◌, ℤ, List, [], ◌∷◌, ◌++◌, length, get_or, take, drop, map, min, max, sum, fold, ltb, sym, ap, ◌∙◌, subst, ⊎_elim, arith, if◌then◌else◌, length-append, add-one}
 use Rattle.std.proofs.Math.Nat.{le-mul_of_pos_right, mul_comm}
+use Rattle.std.proofs.lemmas.Bool.{cases_lt}
 use Rattle.std.proofs.lemmas.Bool.Decides.{nat_tests}
 use Rattle.std.proofs.lemmas.List.{length-take-le}
 use Rattle.std.proofs.lemmas.List.Elements.{All-nil, All-cons, All-head, All-tail, All-append, All-map, All-from_get_or, All-take, All-push}
@@ -142,3 +143,11 @@ small_enough width rows some small =
     let same = not_saturated width rows some small in
     let product : min width (2 ^ 64 - 1) * rows ≡ width * rows = ap (λ n. n * rows) same in
     omega (arith, mul_comm width rows)
+
+-- whether the saturating product passes the limit
+pub is_wide : (width rows capped product : ℕ) → 0 < rows → capped ≡ min width (2 ^ 64 - 1) → product ≡ min (capped * rows) (2 ^ 64 - 1) → ltb 16384 product ≡ ltb 16384 (rows * width)
+is_wide width rows capped product some measured multiplied =
+    let whole : product ≡ min (min width (2 ^ 64 - 1) * rows) (2 ^ 64 - 1) = multiplied ∙ ap (λ n. min (n * rows) (2 ^ 64 - 1)) measured in
+    ⊎_elim (λ large. let beyond : 16384 < rows * width = too_large width rows (subst (λ n. 16384 < n) whole large) in grind (arith, nat_tests))
+    (λ small. let within : rows * width ≤ 16384 = small_enough width rows some (subst (λ n. n ≤ 16384) whole small) in grind (arith, nat_tests))
+    (cases_lt 16384 product)

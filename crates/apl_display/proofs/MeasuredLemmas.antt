@@ -1,11 +1,18 @@
 -- What a measured table of numbers shows of the array that is made of it.
-use Rattle.std.proofs.Common.{◌≡◌, ℕ, ◌-◌, ◌+◌, ◌*◌, ◌^◌, ◌<◌, ◌≤◌, ℤ, List, [], ◌∷◌, ◌++◌, length, take, map, min, sum, sym, ap, ◌∙◌, subst, arith}
+use Rattle.std.proofs.Common.{◌≡◌, ℕ, ◌-◌, ◌+◌, ◌*◌, ◌^◌, ◌<◌, ◌≤◌, ℤ, List, [], ◌∷◌, ◌++◌, Err, cond, ltb, length, take, map, min, sum, refl, sym, ap, ◌∙◌, subst, ⊎_elim, arith}
+use Rattle.std.proofs.lemmas.Bool.{cases_lt}
+use Rattle.std.proofs.lemmas.Bool.Decides.{nat_tests}
 use Rattle.std.specs.List.{concat, range_with_len}
+use Rattle.apl_arrays.specs.declared.report.Fail.{Fail}
+use Rattle.apl_arrays.specs.declared.report.Fail.TheVariants.{Report, WantOfMemory}
+use Rattle.apl_arrays.specs.declared.report.Report.TheVariants.{WsFull}
 use Rattle.apl_arrays.specs.Array.{PlainArray, PlainItems, numbers, chars, element_count, item_count, FitsLimits, IsArray}
 use Rattle.apl_display.proofs.FormatLemmas.{table_width, table_display, width_is, text_is, text_length, has_rows, elements_at_width, fits_at_width, too_large, not_saturated, small_enough}
 use Rattle.apl_display.specs.declared.matrices.Extent.{Extent}
 use Rattle.apl_display.specs.Display.{display_lines}
-use Rattle.apl_display.specs.Format.{width_of, number_format}
+use Rattle.apl_display.specs.Format.{width_of, number_format, IsFormatRefusal}
+use Rattle.apl_items.specs.Places.{OnWantOfMemory}
+use Rattle.apl_display.proofs.WidthLemmas.{length_of_widths}
 use Rattle.apl_display.specs.Matrices.{extent_of, row_count, row_line, row_of, widths_of, column_widths, matrices_lines, aligned}
 
 -- the numbers of an array of rank 2 or more, its shape, its extent and the widths of its columns
@@ -78,7 +85,44 @@ width_kept {b} {list} {shape} {extent} {widths} width product m measured multipl
     let within : min (min w (2 ^ 64 - 1) * rows) (2 ^ 64 - 1) ≤ 16384 = subst (λ n. n ≤ 16384) whole small in
     (capped ∙ not_saturated w rows some within, small_enough w rows some within)
 
--- the array that is made
+-- ---- where there is no memory
+
+shape_at : {b : PlainArray} {list : List ℤ} {shape : List ℕ} {extent : Extent} {widths : List ℕ} → IsMeasured b list shape extent widths → row_count (extent_of b.shape) * table_width b.shape list ≤ 16384 → FitsLimits (number_format b).shape
+shape_at {b} {list} m small =
+    subst (λ (n : ℕ). FitsLimits (take (length b.shape - 1) b.shape ++ n ∷ [])) (sym (lines_width m))
+    (fits_at_width b.shape (table_width b.shape list) m.rank m.array.fits (has_rows b.shape m.rank (omega (arith, whole_of m, m.some))) small)
+
+-- a table whose product was found small fits
+pub shape_fits : {b : PlainArray} {list : List ℤ} {shape : List ℕ} {extent : Extent} {widths : List ℕ} (width product : ℕ) → IsMeasured b list shape extent widths → width ≡ min (length widths - 1 + sum widths) (2 ^ 64 - 1) → product ≡ min (width * row_count extent) (2 ^ 64 - 1) → product ≤ 16384 → FitsLimits (number_format b).shape
+shape_fits width product m measured multiplied small = shape_at m (width_kept width product m measured multiplied small).1
+
+-- how many characters a table has, and whether it is found too large
+found_wide : {b : PlainArray} {list : List ℤ} {shape : List ℕ} {extent : Extent} {widths : List ℕ} → IsMeasured b list shape extent widths → row_count extent * (extent.columns - 1 + sum widths) ≡ row_count (extent_of b.shape) * table_width b.shape list
+found_wide {b} {list} {shape} {extent} {widths} m =
+    let columns : length widths ≡ extent.columns = ap length m.widths_are ∙ length_of_widths list extent.columns (row_count extent) in
+    ap (λ n. row_count extent * (n - 1 + sum widths)) (sym columns)
+    ∙ (ap (λ n. row_count extent * n) (width_from m) ∙ ap (λ n. n * table_width b.shape list) (rows_from m))
+
+wide_passes : {b : PlainArray} {list : List ℤ} {shape : List ℕ} {extent : Extent} {widths : List ℕ} → IsMeasured b list shape extent widths → 16384 < row_count (extent_of b.shape) * table_width b.shape list → FitsLimits (number_format b).shape → ⊥
+wide_passes {b} {list} m large fits =
+    let elements = elements_at_width b.shape (width_of (display_lines b)) m.rank ∙ ap (λ n. row_count (extent_of b.shape) * n) (lines_width m) in
+    omega (arith, fits.elements, elements)
+
+-- why a table without widths is not made
+pub refused_without_widths : {b : PlainArray} {list : List ℤ} {shape : List ℕ} {extent : Extent} {widths : List ℕ} (why : Fail) → IsMeasured b list shape extent widths
+    → why ≡ cond (ltb 16384 (row_count extent * (extent.columns - 1 + sum widths))) (Report WsFull) WantOfMemory → IsFormatRefusal (number_format b).shape why × OnWantOfMemory {T = PlainArray} (Err why) (FitsLimits (number_format b).shape)
+refused_without_widths {b} {list} {shape} {extent} {widths} why m is =
+    let n : ℕ = row_count extent * (extent.columns - 1 + sum widths) in
+    let Goal : Fail → Type 0 = λ (f : Fail). IsFormatRefusal (number_format b).shape f × OnWantOfMemory {T = PlainArray} (Err f) (FitsLimits (number_format b).shape) in
+    ⊎_elim
+    (λ large. let test : cond (ltb 16384 n) (Report WsFull) WantOfMemory ≡ Report WsFull = grind (arith, nat_tests) in
+    subst Goal (sym (is ∙ test)) ((refl, wide_passes m (subst (λ k. 16384 < k) (found_wide m) large)), tt))
+    (λ small. let test : cond (ltb 16384 n) (Report WsFull) WantOfMemory ≡ WantOfMemory = grind (arith, nat_tests) in
+    subst Goal (sym (is ∙ test)) (tt, shape_at m (subst (λ k. k ≤ 16384) (found_wide m) small)))
+    (cases_lt 16384 n)
+
+-- ---- the array that is made
+
 pub result_fits : {b : PlainArray} {list : List ℤ} {shape : List ℕ} {extent : Extent} {widths : List ℕ} (width product : ℕ) → IsMeasured b list shape extent widths → width ≡ min (length widths - 1 + sum widths) (2 ^ 64 - 1) → product ≡ min (width * row_count extent) (2 ^ 64 - 1) → product ≤ 16384 → FitsLimits (take (length shape - 1) shape ++ width ∷ [])
 result_fits {b} {list} {shape} {extent} {widths} width product m measured multiplied small =
     let kept = width_kept width product m measured multiplied small in

@@ -1,5 +1,5 @@
 -- The widths of columns, one row more at a time.
-use Rattle.std.proofs.Common.{◌≡◌, ℕ, zero, suc, ◌+◌, ◌-◌, ◌*◌, ◌<◌, ◌≤◌, max, ℤ, pos, List, length, get_or, drop, map, replicate, fold, sum, sym, ap, ◌∙◌, subst, ⊎_elim, arith, add-one}
+use Rattle.std.proofs.Common.{◌≡◌, ℕ, zero, suc, ◌+◌, ◌-◌, ◌*◌, ◌^◌, ◌<◌, ◌≤◌, max, min, ℤ, pos, List, length, get_or, drop, map, replicate, fold, sum, sym, ap, ◌∙◌, subst, ⊎_elim, arith, add-one}
 use Rattle.std.proofs.lemmas.Bool.{cases_lt}
 use Rattle.std.proofs.lemmas.List.{get_or-replicate, length-replicate, length-drop, length-take-le, get_or-take, get_or-drop}
 use Rattle.std.proofs.lemmas.List.FromFn.{map-range_with_len_more, length-map-range_with_len, get_or-map-range_with_len, fill_by_all}
@@ -70,3 +70,18 @@ length_of_row list columns rows row whole below =
     let numbers = length-row_of list columns rows row whole below in
     length-aligned (column_widths list columns rows) (row_of list columns row) (widths ∙ sym numbers)
     (λ k within. number_fits list columns rows row k below (omega arith))
+
+-- a column, one number more
+pub one_number_more : (list taken : List ℤ) (columns row column width more : ℕ) → column < columns → taken ≡ row_of list columns row → width ≡ column_width list columns row column → more ≡ max (number_width (get_or taken column (pos 0))) width
+    → more ≡ column_width list columns (row + 1) column
+one_number_more list taken columns row column width more within read so_far wider =
+    let number : number_width (get_or taken column (pos 0)) ≡ number_width (get_or list (row * columns + column) (pos 0)) = ap (λ xs. number_width (get_or xs column (pos 0))) read ∙ ap number_width (get_or-row_of list columns row column (pos 0) within) in
+    let greatest = greatest_more (λ r. number_width (get_or list (r * columns + column) (pos 0))) row in
+    omega (arith, wider, so_far, number, greatest)
+
+-- a line of columns, one column more
+pub one_column_more : (f : ℕ → ℕ) (columns n width more : ℕ) → width ≡ min (columns - 1 + sum (map f (range_with_len 0 n))) (2 ^ 64 - 1) → more ≡ min (width + f n) (2 ^ 64 - 1)
+    → more ≡ min (columns - 1 + sum (map f (range_with_len 0 (n + 1)))) (2 ^ 64 - 1)
+one_column_more f columns n width more so_far wider =
+    let next : sum (map f (range_with_len 0 (n + 1))) ≡ sum (map f (range_with_len 0 n)) + f n = ap sum (map-range_with_len_more f 0 n n (omega arith)) ∙ fold_push ◌+◌ 0 (map f (range_with_len 0 n)) (f n) in
+    omega (arith, so_far, wider, next)

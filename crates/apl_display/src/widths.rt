@@ -1,5 +1,5 @@
-ghost use Rattle.std.specs.Prelude.{◌≡◌, ◌*◌, ◌<◌, ◌≤◌, ℕ, pos, max, IfOk, length, slice_index, slice_index_or};
-ghost use Rattle.apl_display.specs.Matrices.{column_widths};
+ghost use Rattle.std.specs.Prelude.{◌≡◌, ◌+◌, ◌-◌, ◌*◌, ◌^◌, ◌<◌, ◌≤◌, ℕ, pos, max, min, IfOk, length, slice_index, slice_index_or, sum};
+ghost use Rattle.apl_display.specs.Matrices.{column_width, column_widths};
 ghost use Rattle.line_text.specs.Number.{number_width};
 
 use crate::row::row_of;
@@ -33,4 +33,29 @@ pub fn column_widths(
         widen(&mut widths, row_of(numbers, columns, row));
     }
     Ok(widths)
+}
+
+// The width of a column in so many rows.
+fn column_width(numbers: &[i64], columns: usize, rows: usize, column: usize) -> usize
+    requires within { column < columns }
+    requires whole { rows * columns ≤ length numbers.now }
+    ensures { result ≡ column_width numbers.now columns rows column }
+{
+    let mut width = 0;
+    for row in 0..rows {
+        width = number_width(row_of(numbers, columns, row)[column]).max(width);
+    }
+    width
+}
+
+/// How wide a line of all columns is, with a blank between each two: as `column_widths` has them, read column by column.
+pub fn columns_width(numbers: &[i64], columns: usize, rows: usize) -> usize
+    requires { rows * columns ≤ length numbers.now }
+    ensures { result ≡ min (columns - 1 + sum (column_widths numbers.now columns rows)) (2 ^ 64 - 1) }
+{
+    let mut width = columns.saturating_sub(1);
+    for column in 0..columns {
+        width = width.saturating_add(column_width(numbers, columns, rows, column));
+    }
+    width
 }

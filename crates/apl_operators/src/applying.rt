@@ -1,7 +1,7 @@
 ghost use Rattle.std.specs.Prelude.{◌≡◌, ◌+◌, true, false, IsOk, is_some, option_copied};
 ghost use Rattle.apl_items.specs.Answers.{Answers};
 ghost use Rattle.apl_items.specs.Places.{OnWantOfMemory};
-ghost use Rattle.operator_rules.specs.Apply.{applied, mixed_dyadic_of, mixed_monadic_of, one_wants_memory_first, wants_memory_first};
+ghost use Rattle.operator_rules.specs.Apply.{applied, mixed_dyadic_of, mixed_monadic_of};
 ghost use Rattle.apl_verbs.specs.Arguments.{is_dyadic, verb_takes_axis};
 
 use crate::inner_product::inner;
@@ -23,8 +23,8 @@ use std::alloc::Global;
 use std::sync::ledger::Ledger;
 
 /// What a function, or an operator with its operands, gives of its arguments: the answer of its call. A left argument is
-/// there exactly where it is dyadic, and an axis only where one may stand. A report comes also where there is no memory, but
-/// for that of ⍕. It counts one step, and takes the memory of that call.
+/// there exactly where it is dyadic, and an axis only where one may stand. A report comes also where there is no memory. It
+/// counts one step, and takes the memory of that call.
 pub fn apply<L: Ledger>(
     alloc: Global,
     verb: &Verb,
@@ -37,7 +37,7 @@ pub fn apply<L: Ledger>(
     requires axis { is_some axis ≡ true → verb_takes_axis verb.now ≡ true }
     ensures steps { steps.new ≡ steps.old + 1 }
     ensures value { Answers result (applied verb.now (option_copied left.entry) right.now axis) }
-    ensures memory { wants_memory_first verb.now ≡ false → OnWantOfMemory result (IsOk (applied verb.now (option_copied left.entry) right.now axis)) }
+    ensures memory { OnWantOfMemory result (IsOk (applied verb.now (option_copied left.entry) right.now axis)) }
 {
     steps.tick();
     match *verb {
@@ -55,7 +55,7 @@ pub fn apply<L: Ledger>(
 /// What a mixed function gives of one argument.
 fn mixed_monadic(alloc: Global, f: Mix1, b: &Array, axis: Option<i64>) -> Result<Array, Fail>
     ensures value { Answers result (mixed_monadic_of f b.now axis) }
-    ensures memory { one_wants_memory_first f ≡ false → OnWantOfMemory result (IsOk (mixed_monadic_of f b.now axis)) }
+    ensures memory { OnWantOfMemory result (IsOk (mixed_monadic_of f b.now axis)) }
 {
     match f {
         Mix1::Shape => shape_of(alloc, b),

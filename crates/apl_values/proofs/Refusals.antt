@@ -16,8 +16,8 @@ use Rattle.apl_values.specs.Parts.{IsNotParsed, IsNotScanned, parse_failure, sca
 pub not_scanned : (refused : ScanRefused) (found : Scanned) → scanning.IsRefusal refused found → IsNotScanned found (scan_failure refused)
 not_scanned (scan_refused.CharacterError at) found is = subst (λ (s : Scanned). IsNotScanned s (fail.Report Character)) (sym is) refl
 not_scanned (scan_refused.SyntaxError at) found is = subst (λ (s : Scanned). IsNotScanned s (fail.Report Syntax)) (sym is) refl
-not_scanned scan_refused.WantOfMemory (Ok tokens) is = tt
-not_scanned scan_refused.WantOfMemory (Err fault) is = tt
+not_scanned scan_refused.WantOfMemory (Ok tokens) is = is
+not_scanned scan_refused.WantOfMemory (Err fault) is = is
 
 pub not_parsed : (refused : ParseRefused) (found : Parsed) → parsing.IsRefusal refused found → IsNotParsed found (parse_failure refused)
 not_parsed (parse_refused.SyntaxError at) found is = subst (λ (p : Parsed). IsNotParsed p (fail.Report Syntax)) (sym is) refl

@@ -1,5 +1,5 @@
 -- Parts of an expression as the nodes that they are, and lines that were read.
-use Rattle.std.specs.Prelude.{◌≡◌, ℕ, Bool, true, false, List, Some, None, Ok, Err, All, map, length}
+use Rattle.std.specs.Prelude.{◌≡◌, ℕ, Bool, true, false, List, Some, None, Ok, Err, IsOk, All, map, length}
 use Rattle.apl_arrays.specs.Array.{PlainArray}
 use Rattle.apl_arrays.specs.declared.report.Fail.{Fail}
 use Rattle.apl_arrays.specs.declared.report.Fail.TheVariants as fail
@@ -76,11 +76,11 @@ abbrev pub IsNotRead : Read → Fail → Type 0
 IsNotRead read (fail.Report report) = read ≡ Err report
 IsNotRead read fail.WantOfMemory = Unit {0}
 
--- why a text was not scanned: by the report of its first error, or memory ran out
+-- why a text was not scanned: by the report of its first error, or memory ran out where it has none
 abbrev pub IsNotScanned : Scanned → Fail → Type 0
 IsNotScanned (Ok tokens) (fail.Report report) = ⊥
 IsNotScanned (Err fault) (fail.Report report) = report ≡ report_of_fault fault
-IsNotScanned scanned fail.WantOfMemory = Unit {0}
+IsNotScanned scanned fail.WantOfMemory = IsOk scanned
 
 -- why tokens are no tree: SYNTAX ERROR, or memory ran out
 abbrev pub IsNotParsed : Parsed → Fail → Type 0

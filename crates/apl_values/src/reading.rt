@@ -102,8 +102,8 @@ fn tree_of(alloc: Global, workspace: &Workspace, text: &Line) -> Result<Tree, Fa
     tree_of_tokens(alloc, workspace, &tokens)
 }
 
-/// The tokens of a text: CHARACTER ERROR where a glyph stands that no token has, else SYNTAX ERROR where no token ends. It
-/// takes memory for them.
+/// The tokens of a text: CHARACTER ERROR where a glyph stands that no token has, else SYNTAX ERROR where no token ends, each
+/// also where there is no memory. It takes memory for them.
 pub fn scanned(alloc: Global, text: &Line) -> Result<Tokens, Fail>
     ensures tokens { IfOk result (λ found. reading_of text.now.items ≡ Ok found.tokens.items) }
     ensures length { IfOk result (λ found. found.length ≡ length text.now.items) }

@@ -1,3 +1,4 @@
+pub mod Asked
 pub mod BracketLaw
 pub mod Closes
 pub mod Digits

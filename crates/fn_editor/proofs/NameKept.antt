@@ -1,8 +1,9 @@
 -- What a line leaves of a definition has its name, and what is opened is no variable.
-use Rattle.std.proofs.Common.{◌≡◌, ℕ, Bool, true, false, cond, ◌&&◌, List, length, Option, Some, None, refl, sym, ap, subst, ◌∙◌}
+use Rattle.std.proofs.Common.{◌≡◌, ℕ, Bool, true, false, cond, ◌&&◌, List, length, Option, Some, None, Result, Ok, Err, IfOk, refl, sym, ap, subst, ◌∙◌}
 use Rattle.std.specs.Prelude.{nat_le}
 use Rattle.std.specs.Option.{option_map}
 use Rattle.std.proofs.lemmas.Bool.{and_parts}
+use Rattle.apl_arrays.specs.declared.report.Fail.{Fail}
 use Rattle.apl_arrays.specs.Limits.{most_line_glyphs}
 use Rattle.apl_arrays.specs.Glyph.{left_bracket}
 use Rattle.apl_workspace.specs.Blanks.{without_blanks}
@@ -88,3 +89,8 @@ pub function_is_no_variable : (w : PlainWorkspace) (name : List ℕ) (function :
 function_is_no_variable w name function whole is =
     let both : IsWhole name (Function function) = subst (IsWhole name) (sym is) whole in
     ap (λ (n : List ℕ). is_variable_meaning (global_in w n)) both.1 ∙ ap is_variable_meaning (sym is)
+
+-- and so is that of a definition with its name
+pub name_is_no_variable : {B : Type 0} (w : PlainWorkspace) (name : List ℕ) (result : Result (PlainEditor × B) Fail) → is_variable_meaning (global_in w name) ≡ false → IfOk result (λ done. done.0.header.name ≡ name) → IfOk result (λ done. is_variable_meaning (global_in w done.0.header.name) ≡ false)
+name_is_no_variable w name (Ok done) none named = ap (λ (n : List ℕ). is_variable_meaning (global_in w n)) named ∙ none
+name_is_no_variable w name (Err fail) none named = tt

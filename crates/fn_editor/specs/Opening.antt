@@ -6,13 +6,12 @@ use Rattle.apl_arrays.specs.Limits.{most_line_glyphs}
 use Rattle.apl_arrays.specs.Name.{longest_name}
 use Rattle.apl_workspace.specs.Blanks.{without_blanks}
 use Rattle.apl_workspace.specs.Header.{PlainHeader, header_of}
-use Rattle.apl_workspace.specs.Meaning.{is_function_meaning}
 use Rattle.apl_workspace.specs.Workspace.{PlainWorkspace, global_in}
 use Rattle.apl_workspace.specs.declared.meaning.Meaning.{Meaning}
 use Rattle.apl_workspace.specs.declared.meaning.Meaning.TheVariants.{Nothing, Value, Function, Label, Shared}
 use Rattle.fn_editor.specs.Bracket.{bracket_in}
 use Rattle.fn_editor.specs.Closing.{behind_glyph, body, closes_definition}
-use Rattle.fn_editor.specs.Editing.{Edited, by_bracket, quietly, then_closed}
+use Rattle.fn_editor.specs.Editing.{Edited, bracket_reads, by_bracket, quietly, then_closed}
 use Rattle.fn_editor.specs.Editor.{PlainEditor, editor_of}
 use Rattle.fn_editor.specs.Number.{line_number}
 
@@ -72,16 +71,16 @@ opened_behind w (Some rest) = option_map (then_closed (closes_definition rest)) 
 abbrev pub opened : PlainWorkspace → List ℕ → Option Edited
 opened w line = opened_behind w (behind_glyph del (without_blanks line))
 
--- memory is taken before it is known whether something is opened: a function is copied before its bracket is looked at, and a header is read
-abbrev pub takes_memory_first : PlainWorkspace → Option (List ℕ × List ℕ) → Bool
-takes_memory_first w None = true
-takes_memory_first w (Some found) = is_function_meaning (global_in w found.0)
+-- memory is taken before it is known whether something is opened: a header is read, by itself or behind a bracket
+abbrev pub takes_memory_first : Option (List ℕ × List ℕ) → Bool
+takes_memory_first None = true
+takes_memory_first (Some found) = bracket_reads (bracket_in found.1)
 
 -- the same of what stands behind the ∇ that opens
-abbrev pub behind_takes_first : PlainWorkspace → Option (List ℕ) → Bool
-behind_takes_first w None = false
-behind_takes_first w (Some rest) = takes_memory_first w (name_with_bracket (body rest))
+abbrev pub behind_takes_first : Option (List ℕ) → Bool
+behind_takes_first None = false
+behind_takes_first (Some rest) = takes_memory_first (name_with_bracket (body rest))
 
 -- the same of a whole line
-abbrev pub line_takes_first : PlainWorkspace → List ℕ → Bool
-line_takes_first w line = behind_takes_first w (behind_glyph del (without_blanks line))
+abbrev pub line_takes_first : List ℕ → Bool
+line_takes_first line = behind_takes_first (behind_glyph del (without_blanks line))

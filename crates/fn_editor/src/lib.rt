@@ -1,6 +1,7 @@
 //! The editor of functions: a definition that is opened, changed line by line, shown, and closed.
 #![tactic(auto)]
 
+mod asking;
 mod bracket;
 mod closing;
 mod content;

@@ -1,18 +1,21 @@
 ghost use Rattle.std.specs.Prelude.{◌≡◌, false, true, Some, IfOk, IfErr};
 ghost use Rattle.std.specs.Option.{option_map};
 ghost use Rattle.apl_workspace.specs.Header.{header_of};
-ghost use Rattle.apl_workspace.specs.Meaning.{is_function_meaning, is_variable_meaning};
+ghost use Rattle.apl_workspace.specs.Meaning.{is_variable_meaning};
 ghost use Rattle.apl_workspace.specs.Workspace.{global_in};
 ghost use Rattle.apl_workspace.specs.declared.meaning.Meaning.{Meaning};
-ghost use Rattle.fn_editor.specs.Editing.{IsRefusal, by_bracket, quietly};
+ghost use Rattle.fn_editor.specs.Editing.{IsRefusal, bracket_reads, by_bracket, quietly};
+ghost use Rattle.fn_editor.specs.Editor.{editor_of};
+ghost use Rattle.apl_workspace.specs.Function.{IsFunction};
 ghost use Rattle.fn_editor.specs.Bracket.{bracket_in};
 ghost use Rattle.fn_editor.specs.Opening.{is_bare, line_takes_first, name_with_bracket, opened, opened_as, opened_at, opened_by, opened_by_header, takes_memory_first};
 
 use crate::Editor;
+use crate::asking::may_ask;
 use crate::closing::{behind_glyph, split_close};
 use crate::content::copied_line;
 use apl_arrays::{Fail, Glyph, LINE_GLYPH_LIMIT, Line, LineList, Name, Report};
-use apl_workspace::{Header, Seen, Workspace, without_blanks};
+use apl_workspace::{Function, Header, Seen, Workspace, without_blanks};
 use std::alloc::Global;
 
 /// What a line opened: the definition, the lines that are shown, and whether the line closed it.
@@ -26,14 +29,14 @@ pub struct Opened {
 impl Editor {
     /// Opens a definition by a line that begins with `∇`, blanks aside: by a header whose name stands for nothing, or by
     /// the bare name of a function, which one bracket may follow; then a closing `∇` closes it. The answer tells what is
-    /// shown. `Defn` where the rules open nothing: the name of what is opened is no variable. Where a name with a bracket
-    /// behind it stands for no function, it comes also where there is no memory. It takes memory for the texts of the
-    /// function or of a header, and for lines that are shown.
+    /// shown. `Defn` where the rules open nothing: the name of what is opened is no variable. It comes also where there is
+    /// no memory, unless a header is to be read. It takes memory for the texts of the function or of a header, and for
+    /// lines that are shown.
     pub fn start(alloc: Global, line: &Line, ws: &Workspace) -> Result<Opened, Fail>
         ensures ok { IfOk result (λ done. opened ws.now line.now.items ≡ Some (record { editor = done.editor; shown = done.shown.items })) }
         ensures no_variable { IfOk result (λ done. is_variable_meaning (global_in ws.now done.editor.header.name) ≡ false) }
         ensures closed { IfOk result (λ done. done.closed ≡ done.editor.closed) }
-        ensures refused { IfErr result (λ fail. IsRefusal (line_takes_first ws.now line.now.items) (opened ws.now line.now.items) fail) }
+        ensures refused { IfErr result (λ fail. IsRefusal (line_takes_first line.now.items) (opened ws.now line.now.items) fail) }
     {
         match behind_glyph(without_blanks(line.as_slice()), Glyph::DEL) {
             None => Err(Fail::Report(Report::Defn)),
@@ -54,7 +57,7 @@ impl Editor {
 fn open(alloc: Global, text: &[Glyph], ws: &Workspace) -> Result<(Editor, LineList), Fail>
     ensures ok { IfOk result (λ done. opened_by ws.now text.now ≡ Some (record { editor = done.0; shown = done.1.items })) }
     ensures no_variable { IfOk result (λ done. is_variable_meaning (global_in ws.now done.0.header.name) ≡ false) }
-    ensures refused { IfErr result (λ fail. IsRefusal (takes_memory_first ws.now (name_with_bracket text.now)) (opened_by ws.now text.now) fail) }
+    ensures refused { IfErr result (λ fail. IsRefusal (takes_memory_first (name_with_bracket text.now)) (opened_by ws.now text.now) fail) }
 {
     match name_with_bracket(text) {
         None => open_by_header(alloc, text, ws),
@@ -82,16 +85,31 @@ fn open_at(
 ) -> Result<(Editor, LineList), Fail>
     ensures ok { IfOk result (λ done. opened_at rest.now (global_in ws.now name.now) ≡ Some (record { editor = done.0; shown = done.1.items })) }
     ensures no_variable { IfOk result (λ done. is_variable_meaning (global_in ws.now done.0.header.name) ≡ false) }
-    ensures refused { IfErr result (λ fail. IsRefusal (is_function_meaning (global_in ws.now name.now)) (opened_at rest.now (global_in ws.now name.now)) fail) }
+    ensures refused { IfErr result (λ fail. IsRefusal (bracket_reads (bracket_in rest.now)) (opened_at rest.now (global_in ws.now name.now)) fail) }
 {
     match ws.global(name) {
-        Seen::Function(function) => {
-            let mut editor = Editor::of(alloc, function)?;
-            let shown = editor.bracketed(rest)?;
-            Ok((editor, shown))
-        }
+        Seen::Function(function) => open_function(alloc, function, rest),
         _ => Err(Fail::Report(Report::Defn)),
     }
+}
+
+// Opens a function with a bracket behind its name. The bracket is looked at before memory is taken.
+fn open_function(
+    alloc: Global,
+    function: &Function,
+    rest: &[Glyph],
+) -> Result<(Editor, LineList), Fail>
+    requires { IsFunction function.now }
+    ensures ok { IfOk result (λ done. by_bracket (editor_of function.now) (bracket_in rest.now) ≡ Some (record { editor = done.0; shown = done.1.items })) }
+    ensures name { IfOk result (λ done. done.0.header.name ≡ function.now.header.name) }
+    ensures refused { IfErr result (λ fail. IsRefusal (bracket_reads (bracket_in rest.now)) (by_bracket (editor_of function.now) (bracket_in rest.now)) fail) }
+{
+    if !may_ask(function, rest) {
+        return Err(Fail::Report(Report::Defn));
+    }
+    let mut editor = Editor::of(alloc, function)?;
+    let shown = editor.bracketed(rest)?;
+    Ok((editor, shown))
 }
 
 // Opens a definition by a header, or by the bare name of a function.

@@ -121,7 +121,8 @@ unfolding chars_from
 doubled_by false g list beyond found n is e = rw (is, is, e) (char_onto g list n (1 + n) found refl)
 doubled_by true g list beyond found n is e = rw (is, is, e) (ap (found_after 1) (char_onto g list n (1 + n) found refl) ∙ behind_onto (g ∷ list) (1 + n) (2 + n) found (omega arith))
 
-nothing_onto : (found : Option (List ℕ × ℕ)) → found ≡ onto [] 0 found
+-- what is read onto nothing
+pub nothing_onto : (found : Option (List ℕ × ℕ)) → found ≡ onto [] 0 found
 nothing_onto None = refl
 nothing_onto (Some found) = let same : found.1 ≡ 0 + found.1 = omega arith in ap (λ (k : ℕ). Some (found.0, k)) same
 

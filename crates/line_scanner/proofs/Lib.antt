@@ -6,6 +6,7 @@ pub mod Found
 pub mod FrontLaw
 pub mod NumberLaw
 pub mod Numbers
+pub mod Passed
 pub mod Roles
 pub mod ScanLaw
 pub mod Steps

@@ -1,5 +1,5 @@
 -- The tokens of a line, or its first error, computed.
-use Rattle.std.specs.Prelude.{◌≡◌, ◌+◌, ◌-◌, ◌==◌, ℕ, zero, suc, ℤ, Bool, true, false, List, [], ◌∷◌, Option, Some, None, Result, Ok, Err, find, if◌then◌else◌}
+use Rattle.std.specs.Prelude.{◌≡◌, ◌+◌, ◌-◌, ◌==◌, ℕ, zero, suc, ℤ, Bool, true, false, List, [], ◌∷◌, Option, Some, None, Result, Ok, Err, IsOk, find, if◌then◌else◌}
 use Rattle.std.specs.List.{starts_with}
 use Rattle.apl_arrays.specs.Name.{longest_name}
 use Rattle.apl_arrays.specs.System.{system_names, system_text}
@@ -110,8 +110,20 @@ scan_from at zero (glyph ∷ rest) = scan_front (front_of (glyph ∷ rest)) at (
 abbrev pub reading_of : List ℕ → Scanned
 reading_of line = scan_from 0 0 line
 
--- why a line was refused is its first error, unless memory ran out
+-- the first error of a line, where it has one, as it is refused
+abbrev pub refusal_in : Scanned → Option ScanRefused
+refusal_in (Ok tokens) = None
+refusal_in (Err (character_at at)) = Some (CharacterError at)
+refusal_in (Err (syntax_at at)) = Some (SyntaxError at)
+
+-- why a line was refused is its first error; or memory ran out, and it has none
 abbrev pub IsRefusal : ScanRefused → Scanned → Type 0
 IsRefusal (CharacterError at) scanned = scanned ≡ Err (character_at at)
 IsRefusal (SyntaxError at) scanned = scanned ≡ Err (syntax_at at)
-IsRefusal WantOfMemory scanned = Unit {0}
+IsRefusal WantOfMemory scanned = IsOk scanned
+
+-- why a line was refused is its first error, unless memory ran out
+abbrev pub IsErrorFound : ScanRefused → Scanned → Type 0
+IsErrorFound (CharacterError at) scanned = scanned ≡ Err (character_at at)
+IsErrorFound (SyntaxError at) scanned = scanned ≡ Err (syntax_at at)
+IsErrorFound WantOfMemory scanned = Unit {0}

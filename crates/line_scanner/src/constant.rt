@@ -1,4 +1,4 @@
-ghost use Rattle.std.specs.Prelude.{◌≡◌, ◌≤◌, IfOk, length};
+ghost use Rattle.std.specs.Prelude.{◌≡◌, ◌+◌, ◌≤◌, IfOk, length};
 ghost use Rattle.line_scanner.specs.Number.{next_numbers, number_with_more};
 
 use crate::number::next_number;
@@ -24,4 +24,18 @@ pub fn numbers_from(
         end += taken;
     }
     Ok((numbers, end))
+}
+
+/// How many glyphs the numbers of a constant take whose first takes some.
+#[tactic(auto, using(crate::proofs::Passed::begins_numbers, crate::proofs::Passed::passes_number, crate::proofs::Passed::passes_numbers))]
+pub fn numbers_end(taken: usize, glyphs: &[Glyph]) -> usize
+    requires { taken ≤ length glyphs.now }
+    ensures value { result ≡ taken + (next_numbers taken glyphs.now).1 }
+    ensures within { (taken ≤ result) × (result ≤ length glyphs.now) }
+{
+    let mut end = taken;
+    while let Some((_, more)) = next_number(&glyphs[end..]) {
+        end += more;
+    }
+    end
 }

@@ -60,7 +60,7 @@ fn chars_front(alloc: Global, glyphs: &[Glyph]) -> Result<Front, WantOfMemory>
 }
 
 /// The system name at the front.
-fn system_name(glyphs: &[Glyph]) -> Option<SystemName>
+pub fn system_name(glyphs: &[Glyph]) -> Option<SystemName>
     ensures { result ≡ system_name glyphs.now }
 {
     SystemName::ALL

@@ -2,6 +2,7 @@
 #![tactic(auto)]
 
 mod constant;
+mod first_fault;
 mod front;
 pub mod laws;
 mod number;

@@ -1,4 +1,5 @@
 ghost use Rattle.std.specs.Prelude.{◌≡◌, ◌≤◌, false, IfOk, IfSome, length};
+ghost use Rattle.std.specs.Option.{option_map};
 ghost use Rattle.line_scanner.specs.Role.{is_quote};
 ghost use Rattle.line_scanner.specs.Token.{plain_chars};
 ghost use Rattle.line_scanner.specs.Scanning.{chars_from};
@@ -37,4 +38,22 @@ pub fn chars_until_quote(
     } else {
         None
     })
+}
+
+/// How many glyphs the characters up to the closing quote and it take, or `None` where no quote closes.
+pub fn chars_end(glyphs: &[Glyph]) -> Option<usize>
+    ensures value { result ≡ option_map (λ found. found.1) (chars_from false glyphs.now) }
+    ensures within { IfSome result (λ end. end ≤ length glyphs.now) }
+{
+    let mut closing = false;
+    for (at, glyph) in glyphs.iter().enumerate() {
+        if closing == is_quote(*glyph) {
+            closing = false;
+        } else if closing {
+            return Some(at);
+        } else {
+            closing = true;
+        }
+    }
+    if closing { Some(glyphs.len()) } else { None }
 }

@@ -30,22 +30,6 @@ use Rattle.apl_structure.specs.Rotation.{rotate_of}
 use Rattle.apl_structure.specs.Taking.{drop_of, take_of}
 use Rattle.apl_structure.specs.Transposition.{transpose_of}
 
--- of one argument: ⍕ of a table wants memory for the widths of its columns before it is known whether that is too large
-abbrev pub one_wants_memory_first : Mix1 → Bool
-one_wants_memory_first one.Format = true
-one_wants_memory_first _ = false
-
--- memory may be wanted before it is known whether there is a report
-abbrev pub wants_memory_first : Verb → Bool
-wants_memory_first (One f) = false
-wants_memory_first (Two f) = false
-wants_memory_first (Mixed1 f) = one_wants_memory_first f
-wants_memory_first (Mixed2 f) = false
-wants_memory_first (Reduce f way) = false
-wants_memory_first (Scan f way) = false
-wants_memory_first (Inner f g) = false
-wants_memory_first (Outer f) = false
-
 -- what a mixed function gives of one argument
 abbrev pub mixed_monadic_of : Mix1 → PlainArray → Option ℤ → ArrayResult
 mixed_monadic_of one.Shape b axis = shape_of b

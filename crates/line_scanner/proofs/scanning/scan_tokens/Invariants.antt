@@ -1,6 +1,6 @@
 use Rattle.std.proofs.Common.{◌-◌, length}
 use Rattle.line_scanner.proofs.Steps.{IsScannedTo}
-use Rattle.line_scanner.proofs.scanning.scan.Given as goal
+use Rattle.line_scanner.proofs.scanning.scan_tokens.Given as goal
 
 -- the tokens so far and those to come are those of the line
 abbrev pub invariant-loop-tokens : goal.invariant-loop-tokens
