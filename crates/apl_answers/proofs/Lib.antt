@@ -6,6 +6,7 @@ pub mod Changed
 pub mod Granted
 pub mod KeptByValue
 pub mod Listing
+pub mod Numbers
 pub mod Replacing
 pub mod Shares
 pub mod Wanting

@@ -1,5 +1,5 @@
 -- Where memory ran out for an assignment no report was due that comes without it.
-use Rattle.std.proofs.Common.{◌≡◌, ◌≤◌, ◌<◌, Bool, true, false, cond, List, [], ◌∷◌, refl, sym, ap, subst, ◌∙◌, arith}
+use Rattle.std.proofs.Common.{◌≡◌, ◌≤◌, ◌<◌, Bool, true, false, cond, if◌then◌else◌, List, [], ◌∷◌, ◌++◌, refl, sym, ap, subst, ◌∙◌, arith}
 use Rattle.std.specs.Prelude.{ℕ, Option, Some, None, Result, Ok, Err, IfErr, IsOk, nat_le}
 use Rattle.apl_arrays.specs.Array.{PlainArray}
 use Rattle.apl_arrays.specs.declared.report.Fail.{Fail}
@@ -11,21 +11,31 @@ use Rattle.apl_items.specs.Places.{OnWantOfMemory}
 use Rattle.apl_selection.specs.Assignment.{assign_faults, assign_of, overlaid_array}
 use Rattle.apl_workspace.specs.Limits.{most_weight}
 use Rattle.apl_workspace.specs.Meaning.{is_shared_meaning}
-use Rattle.apl_workspace.specs.Workspace.{IsNotAssigned, IsTooHeavy, PlainWorkspace, is_assignable, look, workspace_weight}
+use Rattle.apl_workspace.specs.Workspace.{IsNotAssigned, IsTooHeavy, PlainWorkspace, assigned, is_assignable, look, workspace_weight}
 use Rattle.apl_workspace.specs.declared.meaning.Meaning.{Meaning}
 use Rattle.apl_workspace.specs.declared.meaning.Meaning.TheVariants as meaning
-use Rattle.std.proofs.lemmas.Bool.{false≢true}
+use Rattle.std.proofs.lemmas.Bool.{false≢true, le-leb}
 use Rattle.std.proofs.lemmas.Bool.Decides.{nat_tests}
 use Rattle.sv_events.specs.Answer.{PlainAnswer}
 use Rattle.apl_meaning.specs.Deeds.{Deed, offer, ask_degree, set_control, ask_control, ask_state, retract}
 use Rattle.apl_meaning.specs.Naming.{Naming}
-use Rattle.apl_meaning.specs.State.{State, Outcome}
+use Rattle.sv_events.specs.Row.{answer_row}
+use Rattle.sv_events.specs.declared.event.Act.TheVariants as act
+use Rattle.apl_meaning.specs.Answers.{answer_taken_from, report_of_kind, unless_ended, with_copy}
+use Rattle.apl_meaning.specs.Expressions.{Found}
+use Rattle.apl_meaning.specs.Nodes.{assign_step, leaving_values}
+use Rattle.apl_meaning.specs.State.{State, Outcome, Effect, and_then, gives, refuses, asks, with_workspace}
 use Rattle.apl_meaning.specs.Variables.{assignment, assignment_by}
 use Rattle.apl_values.specs.Rows.{PlainNameRow, deed_act, rows_act}
+use Rattle.apl_values.specs.declared.values.StackValue.{StackValue}
+use Rattle.apl_values.specs.Values.{stack_value}
+use Rattle.apl_statements.specs.declared.evaluation.Evaluation.{Evaluation}
 use Rattle.apl_statements.specs.declared.flow.Flow.{Flow}
+use Rattle.apl_statements.specs.Holding.{parts_of, stack_values}
 use Rattle.apl_statements.specs.Interpreter.{PlainInterpreter, state_at}
 use Rattle.apl_statements.specs.Moves.{Does}
-use Rattle.apl_statements.specs.Wants.{CopyFits, IsNoReport}
+use Rattle.apl_statements.specs.Wants.{CopyFits, IsNoReport, NoReportIsDue}
+use Rattle.apl_statements.proofs.Held.{taken_one}
 
 -- a name for whose value there is no memory takes one
 pub assigned_want : {T : Type 0} (r : Result T Fail) (there takes : Bool) (w : PlainWorkspace) → IfErr r (IsNotAssigned there takes w) → OnWantOfMemory r (takes ≡ true)
@@ -125,3 +135,50 @@ not_copied_takes T fail.WantOfMemory seen w false is other = (other refl).0
 pub not_copied_fits : (T : Type 0) (why : Fail) (takes : Bool) (w : PlainWorkspace) → IsNotAssigned false takes w why → OnWantOfMemory {T = T} (Err why) (workspace_weight w ≤ most_weight)
 not_copied_fits T (fail.Report report) takes w refused = tt
 not_copied_fits T fail.WantOfMemory takes w refused = refused.2
+
+-- ---- a name is assigned
+
+-- a name is assigned, and the value is given
+abbrev gives_assigned : List ℕ → PlainArray → Effect → Outcome Found
+gives_assigned name value effect = and_then effect (λ _ t. gives (Some value) t)
+
+weighs_little : (name : List ℕ) (value : PlainArray) (s : State) → workspace_weight (assigned s.workspace name value) ≤ most_weight → IsNoReport (gives_assigned name value (with_workspace (assigned s.workspace name value) s))
+weighs_little name value s fits =
+    let w : PlainWorkspace = assigned s.workspace name value in
+    subst (λ (b : Bool). IsNoReport (gives_assigned name value (if b then gives tt (record s { workspace = w }) else refuses WsFull s))) (sym (le-leb (workspace_weight w) most_weight fits)) tt
+
+takes_it : (seen : Meaning) (name : List ℕ) (value : PlainArray) (s : State) → s.answers ≡ [] → is_assignable seen ≡ true → (is_shared_meaning seen ≡ false → workspace_weight (assigned s.workspace name value) ≤ most_weight)
+    → IsNoReport (gives_assigned name value (assignment_by seen name value s))
+takes_it meaning.Nothing name value s none may fits = weighs_little name value s (fits refl)
+takes_it (meaning.Value old) name value s none may fits = weighs_little name value s (fits refl)
+takes_it (meaning.Function function) name value s none may fits = absurd (false≢true may)
+takes_it (meaning.Label line) name value s none may fits = absurd (false≢true may)
+takes_it (meaning.Shared copy) name value s none may fits =
+    subst (λ (answers : List PlainAnswer). IsNoReport (gives_assigned name value
+    (and_then (and_then (answer_taken_from answers (act.Set name value) s) (λ answer t. unless_ended (report_of_kind (answer_row answer).row.kind) answer t)) (λ _ t. with_copy name value t)))) (sym none) tt
+
+-- what is found, before the values behind it
+found_free : (values : List PlainArray) (o : Outcome Found) → IsNoReport o → IsNoReport (leaving_values values o)
+found_free values (gives found s) free = tt
+found_free values (refuses report s) free = free
+found_free values (asks asked s) free = tt
+
+-- where memory ran out for an assignment of the newest value, no report of it was due
+pub assign_wants : {T : Type 0} (r : Result T Fail) (m : PlainInterpreter) (e after : Evaluation) (name : List ℕ) (h : StackValue) (value : PlainArray) → after ≡ record e { values = after.values } → e.values.items ≡ after.values.items ++ h ∷ []
+    → value ≡ stack_value m.workspace (parts_of after) h → OnWantOfMemory r (is_assignable (look m.workspace name) ≡ true) → (is_shared_meaning (look m.workspace name) ≡ false → OnWantOfMemory r (workspace_weight (assigned m.workspace name value) ≤ most_weight))
+    → OnWantOfMemory r (NoReportIsDue m (assign_step name (stack_values m.workspace e)))
+assign_wants (Ok done) m e after name h value same items is may fits = tt
+assign_wants (Err (fail.Report report)) m e after name h value same items is may fits = tt
+assign_wants (Err fail.WantOfMemory) m e after name h value same items is may fits = λ asked count taken.
+    let s : State = state_at m asked count taken [] in
+    let w : PlainWorkspace = m.workspace in
+    let first : PlainArray = stack_value w (parts_of e) h in
+    let own : value ≡ first = is ∙ ap (λ (x : Evaluation). stack_value w (parts_of x) h) same in
+    subst (λ (values : List PlainArray). IsNoReport (assign_step name values s)) (sym (taken_one w e after h same items))
+    (found_free (stack_values w after) (gives_assigned name first (assignment name first s))
+    (takes_it (look w name) name first s refl may (λ apart. subst (λ (x : PlainArray). workspace_weight (assigned w name x) ≤ most_weight) own (fits apart))))
+
+-- why a call failed, whatever it was to give
+pub want_as : (S T : Type 0) (why : Fail) (fact : Type 0) → OnWantOfMemory {T = S} (Err why) fact → OnWantOfMemory {T = T} (Err why) fact
+want_as S T (fail.Report report) fact holds = tt
+want_as S T fail.WantOfMemory fact holds = holds

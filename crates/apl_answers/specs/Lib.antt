@@ -1,2 +1,3 @@
 pub mod Brought
+pub mod Numbers
 pub mod WentOn

@@ -16,11 +16,14 @@ ghost use Rattle.apl_values.specs.Values.{IsStackValue, stack_value};
 ghost use Rattle.apl_statements.specs.Moves.{Comes, part_gives, part_takes};
 ghost use Rattle.apl_statements.specs.Sound.{IsCaller, IsEvaluation, IsFlow};
 ghost use Rattle.apl_statements.specs.Holding.{parts_of, stack_value_given, stack_values};
+ghost use Rattle.apl_statements.specs.Wants.{NoReportIsDue};
 ghost use Rattle.apl_statements.specs.Work.{StaysWithin, machine_work, parts_left};
 ghost use Rattle.apl_subscripts.specs.Held.{IsReplacement, MayBeReplaced, behind_subs, places_at, replaced_by, subs_held};
+ghost use Rattle.apl_answers.specs.Numbers.{HoldsNumber};
 ghost use Rattle.apl_answers.specs.WentOn.{went_on};
 
-use crate::changing::{assign_value, not_assigned};
+use crate::changing::{assign_settled, assign_value, not_assigned};
+use crate::lone::lone_number;
 use apl_arrays::{Array, Fail, Name, Report, WantOfMemory};
 use apl_selection::Subs;
 use apl_statements::{Evaluation, Flow, Interpreter};
@@ -37,6 +40,7 @@ pub fn assign(interpreter: &mut Interpreter, e: Evaluation, name: Name) -> Resul
     ensures memory { OnWantOfMemory result (is_assignable (look interpreter.old.workspace name) ≡ true) }
     ensures room { is_shared_meaning (look interpreter.old.workspace name) ≡ false → (value : PlainArray) (values : List PlainArray) → stack_values interpreter.old.workspace e ≡ value ∷ values
         → OnWantOfMemory result (workspace_weight (assigned interpreter.old.workspace name value) ≤ most_weight) }
+    ensures due { OnWantOfMemory result (NoReportIsDue interpreter.old (assign_step name (stack_values interpreter.old.workspace e))) }
     ensures sound { IfOk result (IsFlow interpreter.new) }
     ensures within { IfOk result (StaysWithin interpreter.old e interpreter.new) }
 {
@@ -60,6 +64,26 @@ pub fn assign_unshared(
     ensures memory { OnWantOfMemory result (is_assignable (look interpreter.old.workspace name) ≡ true) }
     ensures room { (value : PlainArray) (values : List PlainArray) → stack_values interpreter.old.workspace e.old ≡ value ∷ values
         → OnWantOfMemory result (workspace_weight (assigned interpreter.old.workspace name value) ≤ most_weight) }
+    ensures due { OnWantOfMemory result (NoReportIsDue interpreter.old (assign_step name (stack_values interpreter.old.workspace e.old))) }
+    ensures sound { OnOk result (IsEvaluation interpreter.new.workspace e.new) }
+    ensures work { OnOk result (machine_work interpreter.new ≡ machine_work interpreter.old) }
+    ensures left { OnOk result (parts_left e.new ≡ parts_left e.old) }
+{
+    match number_held(e) {
+        None => assign_held(interpreter, e, name),
+        Some(number) => assign_number(interpreter, e, &name, number),
+    }
+}
+
+// The same of any value.
+fn assign_held(interpreter: &mut Interpreter, e: &mut Evaluation, name: Name) -> Result<(), Fail>
+    requires sound { IsCaller interpreter.old.workspace e.old }
+    requires unshared { is_shared_meaning (look interpreter.old.workspace name) ≡ false }
+    ensures comes { Comes interpreter.old (part_takes interpreter.old e.old (assign_step name)) 0 interpreter.new (went_on e.new result) }
+    ensures memory { OnWantOfMemory result (is_assignable (look interpreter.old.workspace name) ≡ true) }
+    ensures room { (value : PlainArray) (values : List PlainArray) → stack_values interpreter.old.workspace e.old ≡ value ∷ values
+        → OnWantOfMemory result (workspace_weight (assigned interpreter.old.workspace name value) ≤ most_weight) }
+    ensures due { OnWantOfMemory result (NoReportIsDue interpreter.old (assign_step name (stack_values interpreter.old.workspace e.old))) }
     ensures sound { OnOk result (IsEvaluation interpreter.new.workspace e.new) }
     ensures work { OnOk result (machine_work interpreter.new ≡ machine_work interpreter.old) }
     ensures left { OnOk result (parts_left e.new ≡ parts_left e.old) }
@@ -69,6 +93,38 @@ pub fn assign_unshared(
     assign_value(interpreter, e, &name, right)?;
     e.push(StackValue::Named(name))?;
     Ok(())
+}
+
+// The same of a lone number that is all that a statement holds: it stays where it is.
+fn assign_number(
+    interpreter: &mut Interpreter,
+    e: &Evaluation,
+    name: &Name,
+    number: i64,
+) -> Result<(), Fail>
+    requires number { HoldsNumber e.now number }
+    requires sound { IsCaller interpreter.old.workspace e.now }
+    requires unshared { is_shared_meaning (look interpreter.old.workspace name.now) ≡ false }
+    ensures comes { Comes interpreter.old (part_takes interpreter.old e.now (assign_step name.now)) 0 interpreter.new (went_on e.now result) }
+    ensures memory { OnWantOfMemory result (is_assignable (look interpreter.old.workspace name.now) ≡ true) }
+    ensures room { (value : PlainArray) (values : List PlainArray) → stack_values interpreter.old.workspace e.now ≡ value ∷ values
+        → OnWantOfMemory result (workspace_weight (assigned interpreter.old.workspace name.now value) ≤ most_weight) }
+    ensures due { OnWantOfMemory result (NoReportIsDue interpreter.old (assign_step name.now (stack_values interpreter.old.workspace e.now))) }
+    ensures sound { OnOk result (IsEvaluation interpreter.new.workspace e.now) }
+    ensures work { OnOk result (machine_work interpreter.new ≡ machine_work interpreter.old) }
+{
+    assign_settled(interpreter, name, Array::of_number(number))?;
+    Ok(())
+}
+
+// The number that a statement holds, where it is lone and nothing stands beside it.
+fn number_held(e: &Evaluation) -> Option<i64>
+    ensures { IfSome result (HoldsNumber e.now) }
+{
+    match e.values.as_slice() {
+        [StackValue::Made(array)] => lone_number(array),
+        _ => None,
+    }
 }
 
 // A value that is to be assigned to a name, as an array of its own. Where there is no memory for it, what the assignment would

@@ -40,9 +40,23 @@ pub fn assign_value(
 {
     interpreter.rules();
     match e.settle(interpreter.alloc, &interpreter.workspace) {
-        Ok(()) => interpreter.workspace.assign(name, value),
+        Ok(()) => assign_settled(interpreter, name, value),
         Err(WantOfMemory) => Err(not_assigned(&interpreter.workspace, name, &value)),
     }
+}
+
+/// The same where a statement holds no value of a name. It takes memory for the name.
+pub fn assign_settled(interpreter: &mut Interpreter, name: &Name, value: Array) -> Result<(), Fail>
+    requires unshared { is_shared_meaning (look interpreter.old.workspace name.now) ≡ false }
+    ensures done { HasDone interpreter.old (assignment name.now value) interpreter.new result }
+    ensures memory { OnWantOfMemory result (is_assignable (look interpreter.old.workspace name.now) ≡ true) }
+    ensures room { OnWantOfMemory result (workspace_weight (assigned interpreter.old.workspace name.now value) ≤ most_weight) }
+    ensures fits { OnOk result (workspace_weight (assigned interpreter.old.workspace name.now value) ≤ most_weight) }
+    ensures ok { OnOk result (interpreter.new ≡ record interpreter.old { workspace = assigned interpreter.old.workspace name.now value }) }
+    ensures err { OnErr result (interpreter.new ≡ interpreter.old) }
+{
+    interpreter.rules();
+    interpreter.workspace.assign(name, value)
 }
 
 /// Why a name got no value where there was no memory: a label or a function takes none, and the workspace may weigh too much

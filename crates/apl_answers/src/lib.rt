@@ -5,6 +5,8 @@ mod answering;
 mod assigning;
 mod changing;
 mod lists;
+mod lone;
 
 pub use answering::bring;
 pub use assigning::{assign, assign_items, assign_unshared, is_seen_shared};
+pub use lone::lone_number;

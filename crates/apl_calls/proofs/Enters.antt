@@ -1,6 +1,6 @@
 -- A call enters a function: its frame stands before the others, and the statement that called it waits.
 use Rattle.std.proofs.Common.{◌≡◌, ℕ, ◌<◌, ◌≤◌, ◌⊎◌, inl, inr, Bool, true, false, List, ◌∷◌, length, refl, sym, ap, subst, ◌∙◌, leb, arith}
-use Rattle.std.specs.Prelude.{Err, is_some, map, if◌then◌else◌}
+use Rattle.std.specs.Prelude.{Option, Some, None, Err, is_some, map, option_map, if◌then◌else◌}
 use Rattle.std.proofs.lemmas.Bool.{and_parts, false≢true, le-leb, leb-true}
 use Rattle.std.proofs.lemmas.Bool.Decides.{nat_tests}
 use Rattle.apl_arrays.specs.declared.report.Fail.{Fail}
@@ -21,6 +21,7 @@ use Rattle.apl_meaning.specs.Calls.{call, call_by, called, entering, takes}
 use Rattle.apl_meaning.specs.Expressions.{Found}
 use Rattle.apl_meaning.specs.Verbs.{both_or_neither}
 use Rattle.apl_meaning.specs.Meaning.{ran}
+use Rattle.apl_values.specs.declared.values.StackValue.{StackValue}
 use Rattle.apl_values.specs.Values.{settled}
 use Rattle.apl_statements.specs.declared.evaluation.Evaluation.{Evaluation}
 use Rattle.apl_statements.specs.Evaluating.{caller_of, function_by, takes_by}
@@ -31,7 +32,7 @@ use Rattle.apl_statements.specs.Holding.{IsWithValues}
 use Rattle.apl_statements.proofs.Renewing.{above, settled_caller}
 use Rattle.apl_statements.proofs.Same.{SameAt, at_once, behind_done, moves_as, moves_then}
 use Rattle.apl_statements.proofs.Steps.{call_enters}
-use Rattle.apl_calls.specs.Callings.{IsNotCalled, MayBeCalled, takes_so}
+use Rattle.apl_calls.specs.Callings.{IsNotCalled, MayBeCalled, arguments, takes_so}
 
 -- one that is
 pub takes_function : (m : Meaning) (args : Args) → takes_by m args ≡ true → (m ≡ meaning.Function (function_by m)) × (takes (function_by m).header args ≡ true)
@@ -174,3 +175,15 @@ only_memory before after (fail.Report report) is few fits = absurd (neither is.1
     neither (inl deep) = omega (arith, deep, few)
     neither (inr heavy) = omega (arith, heavy, fits)
 only_memory before after fail.WantOfMemory is few fits = refl
+
+-- ---- arguments that a statement holds
+
+-- an argument that is seen as an array is there as before
+pub mapped : {A B : Type 0} (f : A → B) (found : Option A) → is_some (option_map f found) ≡ is_some found
+mapped f None = refl
+mapped f (Some a) = refl
+
+-- whether the frame fits is asked of what is lent
+pub fitting : (w : PlainWorkspace) (caller : Evaluation) (name : List ℕ) (lent left : Option StackValue) (right : StackValue) (fits : Bool) → fits ≡ leb (workspace_weight (with_frame w name (arguments w caller lent right))) most_weight → lent ≡ left
+    → fits ≡ leb (workspace_weight (with_frame w name (arguments w caller left right))) most_weight
+fitting w caller name lent left right fits is same = is ∙ ap (λ (held : Option StackValue). leb (workspace_weight (with_frame w name (arguments w caller held right))) most_weight) same

@@ -1,7 +1,9 @@
 pub mod Begins
+pub mod CalledHere
 pub mod Entered
 pub mod Enters
 pub mod Falling
+pub mod FollowedHere
 pub mod HereLaw
 pub mod Innermost
 pub mod Keeping

@@ -1,3 +1,4 @@
 pub mod Callings
 pub mod Ended
 pub mod Waitings
+pub mod WentOn

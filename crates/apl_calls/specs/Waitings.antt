@@ -1,6 +1,6 @@
 -- Functions that wait, where the innermost goes to another line, or keeps what was read of one.
 use Rattle.std.specs.Arc.{arc_value}
-use Rattle.std.specs.Prelude.{◌≡◌, ◌≤◌, ◌-◌, ◌++◌, ◌⊎◌, ℕ, List, [], ◌∷◌, Option, Some, slice_get}
+use Rattle.std.specs.Prelude.{◌≡◌, ◌≤◌, ◌-◌, ◌++◌, ◌⊎◌, ℕ, List, [], ◌∷◌, Option, Some, length, slice_get}
 use Rattle.apl_values.specs.declared.reading.LineReading.{LineReading}
 use Rattle.apl_statements.specs.declared.waiting.Waiting.{Waiting}
 use Rattle.apl_statements.specs.Stack.{PlainWaiting, at_line}
@@ -9,6 +9,11 @@ use Rattle.apl_statements.specs.Stack.{PlainWaiting, at_line}
 abbrev pub standing_on : ℕ → List PlainWaiting → List PlainWaiting
 standing_on number [] = []
 standing_on number (w ∷ ws) = at_line w.function number w.caller ∷ ws
+
+-- one function more is under way over what waited, and so many parts of its caller are left
+abbrev pub StandsOver : List PlainWaiting → ℕ → List PlainWaiting → Type 0
+StandsOver waited parts [] = ⊥
+StandsOver waited parts (w ∷ ws) = (ws ≡ waited) × (length w.caller.nodes ≡ parts)
 
 -- the last of these functions is at this line, and the others are as they were
 pub record IsStandingAt (number : ℕ) (before after : List Waiting) : Type 0 where

@@ -61,11 +61,21 @@ fn count_statement(interpreter: &mut Interpreter) -> Result<Vec<StackValue>, Rep
     ensures err { OnErr result (interpreter.new ≡ interpreter.old) }
     ensures refused { IfErr result (λ why. (why ≡ report.Interrupt) × (interpreter.old.statements ≡ 0)) }
 {
+    count_one(interpreter)?;
+    Ok(interpreter.take_room())
+}
+
+/// A statement is begun; INTERRUPT where none may be.
+pub fn count_one(interpreter: &mut Interpreter) -> Result<(), Report>
+    ensures ok { OnOk result ((0 < interpreter.old.statements) × (interpreter.new ≡ record interpreter.old { statements = interpreter.old.statements - 1 })) }
+    ensures err { OnErr result (interpreter.new ≡ interpreter.old) }
+    ensures refused { IfErr result (λ why. (why ≡ report.Interrupt) × (interpreter.old.statements ≡ 0)) }
+{
     if interpreter.statements == 0 {
         return Err(Report::Interrupt);
     }
     interpreter.statements -= 1;
-    Ok(interpreter.take_room())
+    Ok(())
 }
 
 // Begins a statement that was read, with a list for its values. SYNTAX ERROR where it may not stand there, also where there is no
@@ -155,20 +165,34 @@ pub fn begin_line_there(interpreter: &mut Interpreter, number: usize) -> Result<
     ensures afresh { IfOk result IsAfresh }
     ensures falls { IfOk result (λ next. flow_work interpreter.new next + 2 ≤ machine_work interpreter.old) }
 {
+    let keeps = keeps_from(interpreter, number);
     stand_at_line(interpreter, number);
-    begin_text_of_line(interpreter, number)
+    begin_text_of_line(interpreter, number, keeps)
 }
 
-// The function under way is at this line of it.
-fn stand_at_line(interpreter: &mut Interpreter, number: usize)
+/// Whether the readings of lines are kept from this line on: the function goes back to it, or keeps some already. One that goes
+/// straight through its lines needs none of them again.
+pub fn keeps_from(interpreter: &Interpreter, number: usize) -> bool {
+    match interpreter.callers.last() {
+        None => false,
+        Some(waiting) => number <= waiting.number || !waiting.readings.is_empty(),
+    }
+}
+
+/// The function under way is at this line of it.
+pub fn stand_at_line(interpreter: &mut Interpreter, number: usize)
     requires { IsSome (line_of_innermost interpreter.old.stack number) }
     ensures { interpreter.new ≡ record interpreter.old { stack = standing_on number interpreter.old.stack } }
 {
     stand_at(&mut interpreter.callers, number);
 }
 
-// Begins the text of a line of the function under way.
-fn begin_text_of_line(interpreter: &mut Interpreter, number: usize) -> Result<Flow, Fail>
+// Begins the text of a line of the function under way, and keeps its reading where it is asked to.
+fn begin_text_of_line(
+    interpreter: &mut Interpreter,
+    number: usize,
+    keeps: bool,
+) -> Result<Flow, Fail>
     requires { IsSome (line_of_innermost interpreter.old.stack number) }
     ensures comes { Comes interpreter.old (statement_leads interpreter.old (λ s. begun (text_outcome ran in_function (unwrap_or (line_of_innermost interpreter.old.stack number) [])) s)) 0 interpreter.new result }
     ensures memory { OnWantOfMemory result (0 < interpreter.old.statements) }
@@ -177,7 +201,7 @@ fn begin_text_of_line(interpreter: &mut Interpreter, number: usize) -> Result<Fl
     ensures falls { IfOk result (λ next. flow_work interpreter.new next + 2 ≤ machine_work interpreter.old) }
 {
     let room = count_statement(interpreter)?;
-    let reading = reading_of_line(interpreter, number)?;
+    let reading = reading_of_line(interpreter, number, keeps)?;
     begin_reading(interpreter, room, Place::InFunction, reading)
 }
 
@@ -213,8 +237,12 @@ fn function_under_way(interpreter: &Interpreter) -> Option<&Function>
     function_of(&interpreter.workspace, &waiting.name)
 }
 
-// The reading of a line, which is read once a call.
-fn reading_of_line(interpreter: &mut Interpreter, number: usize) -> Result<Arc<LineReading>, Fail>
+/// The reading of a line: one that is kept, or a new one, which is kept where it is asked to.
+pub fn reading_of_line(
+    interpreter: &mut Interpreter,
+    number: usize,
+    keeps: bool,
+) -> Result<Arc<LineReading>, Fail>
     requires there { IsSome (line_of_innermost interpreter.old.stack number) }
     ensures read { IfOk result (λ reading. IsReadFrom interpreter.old.workspace (unwrap_or (line_of_innermost interpreter.old.stack number) []) (arc_value reading)) }
     ensures refused { IfErr result (IsNotRead (read_with interpreter.old.workspace (unwrap_or (line_of_innermost interpreter.old.stack number) []))) }
@@ -224,7 +252,9 @@ fn reading_of_line(interpreter: &mut Interpreter, number: usize) -> Result<Arc<L
         return Ok(twin(reading)?);
     }
     let reading = read_line(interpreter, number)?;
-    keep_reading(interpreter, number, twin(&reading)?)?;
+    if keeps {
+        keep_reading(interpreter, number, twin(&reading)?)?;
+    }
     Ok(reading)
 }
 
@@ -338,15 +368,15 @@ fn shared(alloc: Global, reading: LineReading) -> Result<Arc<LineReading>, WantO
     Ok(Arc::new(alloc, reading)?)
 }
 
-// The same reading once more.
-fn twin(reading: &Arc<LineReading>) -> Result<Arc<LineReading>, WantOfMemory>
+/// The same reading once more.
+pub fn twin(reading: &Arc<LineReading>) -> Result<Arc<LineReading>, WantOfMemory>
     ensures { IfOk result (λ twin. arc_value twin ≡ arc_value reading.now) }
 {
     Ok(reading.clone()?)
 }
 
-// What becomes of the value of a statement; none where it is empty.
-fn purpose_of(reading: &LineReading) -> Option<Purpose>
+/// What becomes of the value of a statement; none where it is empty.
+pub fn purpose_of(reading: &LineReading) -> Option<Purpose>
     requires { IsLineReading reading.now }
     ensures { option_map plain_purpose result ≡ purpose_in (reading_statement reading.now) }
 {

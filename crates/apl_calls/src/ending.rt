@@ -192,9 +192,9 @@ fn needed(e: &mut Evaluation) -> Result<StackValue, Report>
     }
 }
 
-// Where a branch to a value leads: DOMAIN ERROR for characters, else RANK ERROR over one axis; on where it is empty, else to
-// the line of its first number.
-fn branch_to(target: &Array) -> Result<Next, Report>
+/// Where a branch to a value leads: DOMAIN ERROR for characters, else RANK ERROR over one axis; on where it is empty, else to
+/// the line of its first number.
+pub fn branch_to(target: &Array) -> Result<Next, Report>
     ensures ok { IfOk result (λ next. branch_to target.now ≡ Ok (plain_next next)) }
     ensures refused { IfErr result (λ why. branch_to target.now ≡ Err why) }
 {

@@ -73,9 +73,9 @@ pub fn call_with(
     begin_call(interpreter, caller, name, args)
 }
 
-// Whether a name is a function of such arguments that may be entered: SYNTAX ERROR where it is none, else WS FULL where 100
-// functions are under way, or its frame does not fit.
-fn may_be_called(
+/// Whether a name is a function of such arguments that may be entered: SYNTAX ERROR where it is none, else WS FULL where 100
+/// functions are under way, or its frame does not fit.
+pub fn may_be_called(
     interpreter: &Interpreter,
     name: &Name,
     has_left: bool,
@@ -106,8 +106,8 @@ fn frame_fits(interpreter: &Interpreter, name: &Name, args: &Args) -> bool
         .frame_fits(name, args.left.as_ref(), args.right.as_ref())
 }
 
-// The same with arguments that a statement holds.
-fn frame_fits_with(
+/// The same with arguments that a statement holds.
+pub fn frame_fits_with(
     interpreter: &Interpreter,
     caller: &Evaluation,
     name: &Name,
@@ -129,8 +129,8 @@ fn frame_fits_with(
     }
 }
 
-// The arguments of a call as arrays of their own.
-fn args_of(
+/// The arguments of a call as arrays of their own.
+pub fn args_of(
     interpreter: &Interpreter,
     caller: &Evaluation,
     left: Option<StackValue>,
@@ -184,9 +184,9 @@ fn is_too_deep(interpreter: &Interpreter) -> bool
     interpreter.workspace.depth() >= DEPTH_LIMIT
 }
 
-// A function has its frame, which does not weigh too much, and its caller waits under it. There is room for the caller before
-// there is a frame.
-fn enter(
+/// A function has its frame, which does not weigh too much, and its caller waits under it. There is room for the caller before
+/// there is a frame.
+pub fn enter(
     interpreter: &mut Interpreter,
     caller: Evaluation,
     name: Name,

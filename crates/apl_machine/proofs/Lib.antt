@@ -1,4 +1,6 @@
 pub mod Applies
+pub mod CallsNext
+pub mod Evaluates
 pub mod Gives
 pub mod Indexed
 pub mod NextHeld

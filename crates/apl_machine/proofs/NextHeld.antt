@@ -23,7 +23,7 @@ use Rattle.apl_statements.specs.Moves.{part_gives}
 use Rattle.apl_statements.specs.Stack.{carried_on}
 use Rattle.apl_statements.specs.Holding.{parts_of}
 use Rattle.apl_statements.proofs.Same.{at_once}
-use Rattle.apl_machine.specs.Nexts.{IsHeldFor, IsNext, IsNextStackValue}
+use Rattle.apl_machine.specs.Nexts.{IsHeldAs, IsHeldFor, IsNext, IsNextStackValue}
 use Rattle.apl_machine.proofs.StepParts.{next_constant, next_gives, passed, refers_to, to_come}
 
 -- a constant
@@ -34,12 +34,17 @@ constant_next m e array is there constant = record {
   moves = at_once m (to_come m e) (part_gives m (passed e) (λ s. gives (Some (stack_value m.workspace (parts_of e) (held.Constant e.at))) s)) (next_constant m e array is there constant);
 }
 
--- a name that has a value, or is a label
-held_next : (m : PlainInterpreter) (e : Evaluation) (name : List ℕ) (seen : Meaning) (one : StackValue) → IsNext e (node.value name) → e.is_wanting ≡ false → look m.workspace name ≡ seen → IsHeldFor seen name one → IsNextStackValue m e one
-held_next m e name meaning.Nothing one next there seen is = absurd is
-held_next m e name (meaning.Function function) one next there seen is = absurd is
-held_next m e name (meaning.Shared copy) one next there seen is = absurd is
-held_next m e name (meaning.Value array) one next there seen is = subst (IsNextStackValue m e) (sym is) (record {
+-- a name that has a value
+value_next : (m : PlainInterpreter) (e : Evaluation) (name : List ℕ) (array : PlainArray) (one : StackValue) → IsNext e (node.value name) → e.is_wanting ≡ false → look m.workspace name ≡ meaning.Value array → IsHeldAs array name one → IsNextStackValue m e one
+value_next m e name array (held.Constant at) next there seen is = absurd is
+value_next m e name array (held.Made made) next there seen is = subst (λ (one : PlainArray). IsNextStackValue m e (held.Made one)) (sym is) (record {
+  there = there;
+  is_held = refl;
+  moves = at_once m (to_come m e) (part_gives m (passed e) (λ s. gives (Some (stack_value m.workspace (parts_of e) (held.Made array))) s)) (λ asked count taken further.
+      next_gives m e (node.value name) (λ s. valued (reference name s)) next there (λ values t. refl) asked count taken further
+      ∙ refers_to m (passed e) name (meaning.Value array) seen asked count taken further);
+})
+value_next m e name array (held.Named other) next there seen is = subst (λ (one : List ℕ). IsNextStackValue m e (held.Named one)) (sym is) (record {
   there = there;
   is_held = subst (λ (found : Meaning). IsSome (value_of found)) (sym seen) refl;
   moves = at_once m (to_come m e) (part_gives m (passed e) (λ s. gives (Some (stack_value m.workspace (parts_of e) (held.Named name))) s)) (λ asked count taken further.
@@ -47,6 +52,13 @@ held_next m e name (meaning.Value array) one next there seen is = subst (IsNextS
       ∙ refers_to m (passed e) name (meaning.Value array) seen asked count taken further
       ∙ ap (λ (found : Meaning). carried_on (gives (Some (unwrap_or (value_of found) no_array)) (state_at m asked count taken further)) (caller_of m.workspace (here m) (passed e)) m.stack) (sym seen));
 })
+
+-- a name that has a value, or is a label
+held_next : (m : PlainInterpreter) (e : Evaluation) (name : List ℕ) (seen : Meaning) (one : StackValue) → IsNext e (node.value name) → e.is_wanting ≡ false → look m.workspace name ≡ seen → IsHeldFor seen name one → IsNextStackValue m e one
+held_next m e name meaning.Nothing one next there seen is = absurd is
+held_next m e name (meaning.Function function) one next there seen is = absurd is
+held_next m e name (meaning.Shared copy) one next there seen is = absurd is
+held_next m e name (meaning.Value array) one next there seen is = value_next m e name array one next there seen is
 held_next m e name (meaning.Label line) one next there seen is = subst (IsNextStackValue m e) (sym is) (record {
   there = there;
   is_held = refl;

@@ -3,18 +3,21 @@ use Rattle.std.proofs.Common.{◌≡◌, ℕ, zero, suc, ◌+◌, ◌-◌, ◌�
 use Rattle.std.specs.Prelude.{◌<◌, All, IfSome, Option, Some, None, if◌then◌else◌, is_some, option_to_list, slice_get}
 use Rattle.std.specs.Option.{option_copied}
 use Rattle.std.specs.Slice.{IsItemAt}
-use Rattle.std.proofs.lemmas.List.{take-append-drop}
+use Rattle.std.proofs.lemmas.List.{length-take, take-append-drop}
+use Rattle.std.proofs.lemmas.List.Elements.{All-push}
 use Rattle.std.proofs.lemmas.Option.{get_or_from_slice_get, slice_get_read, slice_get_within}
 use Rattle.apl_values.proofs.Found.{found_at}
 use Rattle.apl_workspace.specs.Workspace.{PlainWorkspace}
+use Rattle.apl_arrays.specs.Array.{PlainArray}
 use Rattle.apl_values.specs.declared.values.StackValue.{StackValue}
+use Rattle.apl_values.specs.declared.values.StackValue.TheVariants as held
 use Rattle.apl_values.specs.Values.{IsStackValue}
 use Rattle.apl_statements.specs.declared.evaluation.Evaluation.{Evaluation}
 use Rattle.apl_statements.specs.declared.evaluation.Operands.{Operands}
 use Rattle.apl_statements.specs.Holding.{IsWithValues, parts_of}
 use Rattle.apl_statements.specs.Operands.{operand_count, operand_list}
-use Rattle.apl_statements.specs.Sound.{IsCaller}
-use Rattle.apl_statements.proofs.Gives.{fewer_sound}
+use Rattle.apl_statements.specs.Sound.{IsCaller, IsEvaluation}
+use Rattle.apl_statements.proofs.Gives.{fewer_sound, with_values_sound}
 use Rattle.apl_statements.proofs.Taken.{all_front}
 
 -- an item behind others
@@ -118,3 +121,22 @@ oldest_sound w e under first with is =
     fewer_sound w e under with.same
     (subst (All (IsStackValue w (parts_of e))) (sym with.values)
     (all_front (IsStackValue w (parts_of e)) (take first items) (drop first items) (subst (All (IsStackValue w (parts_of e))) (sym (take-append-drop first items)) is.evaluation.values))) is
+
+-- a statement with its oldest values alone
+abbrev pub oldest : Evaluation → ℕ → Evaluation
+oldest e first = record e { values = record e.values { items = take first e.values.items; len = length (take first e.values.items); ok = (refl, omega (arith, length-take first e.values.items)) } }
+
+-- a statement whose newest values gave place to an array is one with its oldest values and the array
+pub placed : (e after : Evaluation) (first : ℕ) (array : PlainArray) → IsWithValues e (take first e.values.items ++ held.Made array ∷ []) after → IsWithValues (oldest e first) ((oldest e first).values.items ++ held.Made array ∷ []) after
+placed e after first array with = record { same = with.same; values = with.values }
+
+-- its oldest values alone wait still
+pub oldest_waits : (w : PlainWorkspace) (e : Evaluation) (first : ℕ) → IsCaller w e → IsCaller w (oldest e first)
+oldest_waits w e first is = oldest_sound w e (oldest e first) first (record { same = refl; values = refl }) is
+
+-- and with the array it is a statement
+pub placed_sound : (w : PlainWorkspace) (e after : Evaluation) (first : ℕ) (array : PlainArray) → IsWithValues e (take first e.values.items ++ held.Made array ∷ []) after → IsCaller w e → IsEvaluation w after
+placed_sound w e after first array with is =
+    let waits : IsCaller w (oldest e first) = oldest_waits w e first is in
+    with_values_sound w (oldest e first) after (take first e.values.items ++ held.Made array ∷ []) waits.evaluation
+    (All-push (IsStackValue w (parts_of (oldest e first))) (take first e.values.items) (held.Made array) waits.evaluation.values refl) (placed e after first array with)

@@ -1,4 +1,5 @@
 pub mod Axes
+pub mod Calls
 pub mod Given
 pub mod Machine
 pub mod Nexts

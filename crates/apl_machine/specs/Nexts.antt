@@ -1,6 +1,6 @@
 -- The next part of a statement where the statement goes on behind it in any case.
 use Rattle.std.specs.Prelude.{◌≡◌, ◌<◌, ◌+◌, ℕ, pos, List, Bool, true, false, Option, Some, None, is_some, option_map, slice_get}
-use Rattle.apl_arrays.specs.Array.{scalar}
+use Rattle.apl_arrays.specs.Array.{PlainArray, scalar}
 use Rattle.apl_workspace.specs.Workspace.{PlainWorkspace, is_assignable}
 use Rattle.apl_workspace.specs.declared.meaning.Meaning.{Meaning}
 use Rattle.apl_workspace.specs.declared.meaning.Meaning.TheVariants as meaning
@@ -23,10 +23,16 @@ use Rattle.apl_statements.specs.Holding.{parts_of}
 use Rattle.apl_statements.specs.Work.{parts_left}
 use Rattle.apl_subscripts.specs.Held.{MayBeReplaced, behind_subs, subs_held}
 
--- a name that stands for this is held so: one that has a value by the name, a label as the number of its line, and no other at all
+-- the value of a name is held so: by the name, or itself
+abbrev pub IsHeldAs : PlainArray → List ℕ → StackValue → Type 0
+IsHeldAs array name (held.Made made) = made ≡ array
+IsHeldAs array name (held.Constant at) = ⊥
+IsHeldAs array name (held.Named other) = other ≡ name
+
+-- a name that stands for this is held so: one that has a value by the name or as the value, a label as the number of its line, and no other at all
 abbrev pub IsHeldFor : Meaning → List ℕ → StackValue → Type 0
 IsHeldFor meaning.Nothing name value = ⊥
-IsHeldFor (meaning.Value array) name value = value ≡ held.Named name
+IsHeldFor (meaning.Value array) name value = IsHeldAs array name value
 IsHeldFor (meaning.Function function) name value = ⊥
 IsHeldFor (meaning.Label line) name value = value ≡ held.Made (scalar (pos line))
 IsHeldFor (meaning.Shared copy) name value = ⊥

@@ -1,12 +1,9 @@
 -- What holds where memory ran out for a part of a statement.
-use Rattle.std.specs.Prelude.{Bool, true, false, not, Result, Ok, Err}
+use Rattle.std.specs.Prelude.{Bool, true, false, Result, Ok, Err}
 use Rattle.apl_arrays.specs.declared.report.Fail.{Fail}
 use Rattle.apl_arrays.specs.declared.report.Fail.TheVariants as fail
 use Rattle.line_trees.specs.Nodes as node
 use Rattle.line_trees.specs.Nodes.{PlainNode}
-use Rattle.line_trees.specs.declared.tree.Fun.{Fun}
-use Rattle.line_trees.specs.declared.tree.Fun.TheVariants as fun
-use Rattle.operator_rules.specs.Apply.{wants_memory_first}
 use Rattle.apl_meaning.specs.State.{gives}
 use Rattle.apl_meaning.specs.Tasks.{Run, goes_on}
 
@@ -14,21 +11,15 @@ use Rattle.apl_meaning.specs.Tasks.{Run, goes_on}
 abbrev pub no_lines : Run
 no_lines task s = gives goes_on s
 
--- a function takes memory before it is known whether it has a report
-abbrev pub takes_memory_first : Fun → Bool
-takes_memory_first (fun.Verb verb) = wants_memory_first verb
-takes_memory_first (fun.Defined name) = false
-takes_memory_first (fun.System name) = false
-
--- a part of a statement takes no memory before it is known whether it has a report; of an assignment this is not said
+-- of a part of a statement it is said that memory runs out only where it has no report: of items that are replaced this is not said
 abbrev pub looks_first : PlainNode → Bool
 looks_first (node.constant items) = true
 looks_first (node.value name) = true
 looks_first (node.niladic name) = true
 looks_first (node.paren k) = true
 looks_first (node.indexed v places) = true
-looks_first (node.apply f left right axis) = not (takes_memory_first f)
-looks_first (node.assign name right) = false
+looks_first (node.apply f left right axis) = true
+looks_first (node.assign name right) = true
 looks_first (node.assign_at name places right) = false
 
 -- a fact holds unless a report is told

@@ -3,7 +3,6 @@ ghost use Rattle.apl_items.specs.Places.{OnWantOfMemory};
 ghost use Rattle.apl_meaning.specs.Meaning.{ran};
 ghost use Rattle.apl_meaning.specs.Nodes.{apply_step};
 ghost use Rattle.line_trees.specs.declared.tree.Fun.TheVariants as fun;
-ghost use Rattle.operator_rules.specs.Apply.{wants_memory_first};
 ghost use Rattle.apl_values.specs.Values.{IsStackValue, stack_value};
 ghost use Rattle.apl_statements.specs.Moves.{Comes, if_there, part_takes};
 ghost use Rattle.apl_statements.specs.Sound.{IsCaller, IsFlow};
@@ -11,7 +10,7 @@ ghost use Rattle.apl_statements.specs.Holding.{parts_of, stack_values};
 ghost use Rattle.apl_statements.specs.Wants.{NoReportIsDue};
 ghost use Rattle.apl_statements.specs.Work.{StaysWithin};
 ghost use Rattle.apl_machine.specs.Axes.{IsAxis, IsNoAxis};
-ghost use Rattle.apl_machine.specs.Wants.{no_lines, takes_memory_first};
+ghost use Rattle.apl_machine.specs.Wants.{no_lines};
 
 use crate::verbs::{number_of_axis, perform_verb};
 use apl_acts::system;
@@ -25,7 +24,7 @@ use line_trees::Fun;
 use std::sync::ledger::Ledger;
 
 /// A function of its arguments, all of which are evaluated: a primitive one, a defined one, or a system function. A report comes
-/// also where there is no memory, but for that of ⍕, and for what the lines of a function tell.
+/// also where there is no memory, but for what the lines of a function tell.
 pub fn perform<L: Ledger>(
     interpreter: &mut Interpreter,
     e: Evaluation,
@@ -37,7 +36,7 @@ pub fn perform<L: Ledger>(
     requires sound { IsCaller interpreter.old.workspace e }
     ensures rises { steps.old ≤ steps.new }
     ensures comes { Comes interpreter.old (part_takes interpreter.old e (apply_step ran function (if_there has_left) (if_there has_axis))) (steps.new - steps.old) interpreter.new result }
-    ensures memory { takes_memory_first function ≡ false → OnWantOfMemory result (NoReportIsDue interpreter.old (apply_step no_lines function (if_there has_left) (if_there has_axis) (stack_values interpreter.old.workspace e))) }
+    ensures memory { OnWantOfMemory result (NoReportIsDue interpreter.old (apply_step no_lines function (if_there has_left) (if_there has_axis) (stack_values interpreter.old.workspace e))) }
     ensures sound { IfOk result (IsFlow interpreter.new) }
     ensures within { IfOk result (StaysWithin interpreter.old e interpreter.new) }
 {
@@ -66,7 +65,7 @@ fn verb_flow<L: Ledger>(
     requires sound { IsCaller interpreter.now.workspace e }
     ensures rises { steps.old ≤ steps.new }
     ensures comes { Comes interpreter.now (part_takes interpreter.now e (apply_step ran (fun.Verb verb) (if_there has_left) (if_there has_axis))) (steps.new - steps.old) interpreter.now result }
-    ensures memory { wants_memory_first verb ≡ false → OnWantOfMemory result (NoReportIsDue interpreter.now (apply_step no_lines (fun.Verb verb) (if_there has_left) (if_there has_axis) (stack_values interpreter.now.workspace e))) }
+    ensures memory { OnWantOfMemory result (NoReportIsDue interpreter.now (apply_step no_lines (fun.Verb verb) (if_there has_left) (if_there has_axis) (stack_values interpreter.now.workspace e))) }
     ensures sound { IfOk result (IsFlow interpreter.now) }
     ensures within { IfOk result (StaysWithin interpreter.now e interpreter.now) }
 {

@@ -2,6 +2,7 @@
 #![tactic(auto)]
 
 mod applying;
+mod calls;
 mod flow;
 pub mod laws;
 mod machine;

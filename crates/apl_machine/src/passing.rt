@@ -1,13 +1,17 @@
 ghost use Rattle.std.specs.Prelude.{◌≡◌, ◌-◌, ◌<◌, ◌≤◌, IfOk, OnOk, length};
-ghost use Rattle.line_trees.specs.Nodes.{plain_node};
+ghost use Rattle.apl_items.specs.Places.{OnWantOfMemory};
+ghost use Rattle.line_trees.specs.Nodes.{PlainNode, plain_node};
+ghost use Rattle.apl_meaning.specs.Nodes.{node_step};
 ghost use Rattle.apl_statements.specs.Evaluating.{evaluation_of};
-ghost use Rattle.apl_statements.specs.Holding.{parts_of};
+ghost use Rattle.apl_statements.specs.Holding.{parts_of, stack_values};
 ghost use Rattle.apl_statements.specs.Moves.{Comes};
 ghost use Rattle.apl_statements.specs.Sound.{IsEvaluation};
 ghost use Rattle.apl_statements.specs.Stack.{onward};
+ghost use Rattle.apl_statements.specs.Wants.{NoReportIsDue};
 ghost use Rattle.apl_statements.specs.Work.{machine_work};
 ghost use Rattle.apl_answers.specs.WentOn.{went_on};
-ghost use Rattle.apl_machine.specs.Nexts.{HasPassed, IsNextStep, IsStepOf};
+ghost use Rattle.apl_machine.specs.Nexts.{HasPassed, IsNext, IsNextStep, IsStepOf};
+ghost use Rattle.apl_machine.specs.Wants.{no_lines};
 
 use crate::verbs::perform_verb;
 use apl_answers::{assign_unshared, is_seen_shared};
@@ -30,7 +34,8 @@ pub enum PlainStep {
 }
 
 /// The next part is done where the statement stands, if it is a pair of parentheses, a primitive function, or an assignment to a
-/// name that is not shared. It tells whether it was done; where it was not, nothing has changed.
+/// name that is not shared. It tells whether it was done; where it was not, nothing has changed. A report comes also where there
+/// is no memory.
 pub fn pass_step<L: Ledger>(
     interpreter: &mut Interpreter,
     e: &mut Evaluation,
@@ -40,6 +45,7 @@ pub fn pass_step<L: Ledger>(
     requires next { e.old.at < length (parts_of e.old) }
     ensures rises { steps.old ≤ steps.new }
     ensures comes { Comes interpreter.old (λ s. onward (evaluation_of interpreter.old.workspace e.old) interpreter.old.stack s) (steps.new - steps.old) interpreter.new (went_on e.new result) }
+    ensures memory { (n : PlainNode) → IsNext e.old n → OnWantOfMemory result (NoReportIsDue interpreter.old (node_step no_lines n (stack_values interpreter.old.workspace e.old))) }
     ensures sound { OnOk result (IsEvaluation interpreter.new.workspace e.new) }
     ensures work { OnOk result (machine_work interpreter.new ≡ machine_work interpreter.old) }
     ensures passed { IfOk result (HasPassed e.old e.new) }

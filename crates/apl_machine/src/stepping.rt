@@ -8,7 +8,7 @@ ghost use Rattle.apl_selection.specs.Indexing.{index_faults, selection_of};
 ghost use Rattle.apl_workspace.specs.Workspace.{look};
 ghost use Rattle.apl_meaning.specs.Expressions.{valued};
 ghost use Rattle.line_trees.specs.Nodes.{PlainNode};
-ghost use Rattle.apl_meaning.specs.Nodes.{indexed_step, node_step};
+ghost use Rattle.apl_meaning.specs.Nodes.{assign_step, indexed_step, node_step};
 ghost use Rattle.apl_meaning.specs.Variables.{reference};
 ghost use Rattle.apl_values.specs.Parts.{is_paren, plain_part};
 ghost use Rattle.apl_values.specs.Values.{IsStackValue, stack_value};
@@ -22,14 +22,15 @@ ghost use Rattle.apl_statements.specs.Work.{Falls, StaysWithin, TakesAStep, mach
 ghost use Rattle.apl_statements.specs.declared.flow.Flow.TheVariants as flow;
 ghost use Rattle.apl_subscripts.specs.Held.{places_at, subs_held};
 ghost use Rattle.apl_answers.specs.WentOn.{went_on};
-ghost use Rattle.apl_machine.specs.Nexts.{HasPassed, IsHeldFor, IsNextStackValue, MayBeAssigned, given_places};
+ghost use Rattle.apl_machine.specs.Nexts.{HasPassed, IsHeldAs, IsHeldFor, IsNextStackValue, MayBeAssigned, given_places};
 ghost use Rattle.apl_machine.specs.Wants.{looks_first, no_lines};
 
 use crate::applying::perform;
+use crate::calls::{call_next, call_of};
 use crate::passing::pass_step;
-use apl_answers::{assign, assign_items};
+use apl_answers::{assign, assign_items, lone_number};
 use apl_arrays::{Array, Fail, Name, Report, WantOfMemory};
-use apl_calls::{call, end_statement, follow};
+use apl_calls::{call, end_statement, follow, follow_here};
 use apl_operators::Steps;
 use apl_statements::{Evaluation, Flow, Interpreter, Pause};
 use apl_subscripts::{index_held, let_go_of_subs, places_at};
@@ -61,7 +62,8 @@ pub fn run_from<L: Ledger>(
     }
 }
 
-// A statement goes on to its end, to an act, or to the first line of a function that it calls.
+// A statement goes on to its end, to an act, or to the first line of a function that it calls; what follows it in a function
+// takes its place.
 fn evaluate<L: Ledger>(
     interpreter: &mut Interpreter,
     evaluation: Evaluation,
@@ -74,15 +76,25 @@ fn evaluate<L: Ledger>(
     ensures falls { IfOk result (Falls interpreter.old interpreter.new) }
 {
     let mut e = evaluation;
-    'parts: while e.goes_on() {
-        if !pass(interpreter, &mut e, steps)? {
-            match go_on(interpreter, e, steps)? {
-                Flow::Evaluates(next) => e = next,
-                other => return Ok(other),
+    'statements: loop {
+        let mut began = false;
+        'parts: while !began && e.goes_on() {
+            if !pass(interpreter, &mut e, steps)? {
+                match call_of(&e) {
+                    Some((name, has_left)) => {
+                        began = call_next(interpreter, &mut e, name, has_left)?;
+                    }
+                    None => match go_on(interpreter, e, steps)? {
+                        Flow::Evaluates(next) => e = next,
+                        other => return Ok(other),
+                    },
+                }
             }
         }
+        if !began && !follow_here(interpreter, &mut e)? {
+            return end_statement(interpreter, e);
+        }
     }
-    end_statement(interpreter, e)
 }
 
 // The next part is done where the statement stands, if it only gives a value, or the statement goes on behind it in any case. It
@@ -137,20 +149,30 @@ fn next_held(interpreter: &Interpreter, e: &Evaluation) -> Option<StackValue>
     match &e.reading.parts[e.at] {
         Part::Constant(_) => Some(StackValue::Constant(e.at)),
         Part::Other(node) => match node {
-            Node::Value(name) => held_of(interpreter, *name),
+            Node::Value(name) => held_of(interpreter, name),
             _ => None,
         },
     }
 }
 
 // A name as a value, where it has one or is a label.
-fn held_of(interpreter: &Interpreter, name: Name) -> Option<StackValue>
-    ensures { IfSome result (IsHeldFor (look interpreter.now.workspace name) name) }
+fn held_of(interpreter: &Interpreter, name: &Name) -> Option<StackValue>
+    ensures { IfSome result (IsHeldFor (look interpreter.now.workspace name.now) name.now) }
 {
-    match interpreter.workspace.look(&name) {
-        Seen::Value(_) => Some(StackValue::Named(name)),
+    match interpreter.workspace.look(name) {
+        Seen::Value(array) => Some(held_for(name, array)),
         Seen::Label(line) => Some(StackValue::Made(number_of(line))),
         _ => None,
+    }
+}
+
+// The value that a name has, as it is held: a lone number itself, which takes no memory, and any other by the name.
+fn held_for(name: &Name, array: &Array) -> StackValue
+    ensures { IsHeldAs array.now name.now result }
+{
+    match lone_number(array) {
+        None => StackValue::Named(*name),
+        Some(number) => StackValue::Made(Array::of_number(number)),
     }
 }
 
@@ -171,6 +193,7 @@ fn go_on<L: Ledger>(
     requires next { e.at < length (parts_of e) }
     ensures rises { steps.old ≤ steps.new }
     ensures comes { Comes interpreter.old (λ s. onward (evaluation_of interpreter.old.workspace e) interpreter.old.stack s) (steps.new - steps.old) interpreter.new result }
+    ensures memory { (n : PlainNode) → option_map plain_part (slice_get (parts_of e) e.at) ≡ Some n → looks_first n ≡ true → OnWantOfMemory result (NoReportIsDue interpreter.old (node_step no_lines n (stack_values interpreter.old.workspace e))) }
     ensures sound { IfOk result (IsFlow interpreter.new) }
     ensures within { IfOk result (TakesAStep interpreter.old e interpreter.new) }
 {
@@ -181,8 +204,8 @@ fn go_on<L: Ledger>(
     }
 }
 
-// A part takes the values that it needs, and gives one. A report comes also where there is no memory, but for that of ⍕ and of
-// an assignment.
+// A part takes the values that it needs, and gives one. A report comes also where there is no memory; of items that are replaced
+// this is said by `assign_to`.
 fn step<L: Ledger>(
     interpreter: &mut Interpreter,
     e: Evaluation,
@@ -245,6 +268,7 @@ fn assign_to(
     requires sound { IsCaller interpreter.old.workspace e }
     ensures comes { Comes interpreter.old (part_takes interpreter.old e (assignment_step name (given_places has_subs (places_at e at)))) 0 interpreter.new result }
     ensures memory { OnWantOfMemory result (MayBeAssigned (given_places has_subs (places_at e at)) interpreter.old.workspace e (look interpreter.old.workspace name)) }
+    ensures due { has_subs ≡ false → OnWantOfMemory result (NoReportIsDue interpreter.old (assign_step name (stack_values interpreter.old.workspace e))) }
     ensures sound { IfOk result (IsFlow interpreter.new) }
     ensures within { IfOk result (StaysWithin interpreter.old e interpreter.new) }
 {

@@ -1,14 +1,14 @@
-ghost use Rattle.std.specs.Prelude.{◌≡◌, ◌+◌, ◌-◌, ◌<◌, ◌≤◌, ◌&&◌, ◌||◌, None, false, IfErr, IfOk, IfSome, OnOk, if◌then◌else◌, length, not, option_map, take};
+ghost use Rattle.std.specs.Prelude.{◌≡◌, ◌+◌, ◌-◌, ◌<◌, ◌≤◌, ◌&&◌, ◌||◌, ◌++◌, [], ◌∷◌, None, false, IfErr, IfOk, IfSome, OnOk, if◌then◌else◌, length, not, option_map, take};
 ghost use Rattle.std.specs.Option.{option_copied};
 ghost use Rattle.apl_items.specs.Places.{OnWantOfMemory};
 ghost use Rattle.apl_meaning.specs.Expressions.{valued};
 ghost use Rattle.apl_meaning.specs.Meaning.{ran};
 ghost use Rattle.apl_meaning.specs.Nodes.{apply_step};
 ghost use Rattle.apl_meaning.specs.Verbs.{application, both_or_neither, named_axis};
-ghost use Rattle.operator_rules.specs.Apply.{wants_memory_first};
 ghost use Rattle.apl_verbs.specs.Arguments.{is_dyadic, verb_takes_axis};
 ghost use Rattle.line_trees.specs.declared.tree.Fun.TheVariants as fun;
 ghost use Rattle.apl_values.specs.Values.{IsStackValue, stack_value};
+ghost use Rattle.apl_values.specs.declared.values.StackValue.TheVariants as held;
 ghost use Rattle.apl_statements.specs.Holding.{IsWithValues, parts_of, stack_values};
 ghost use Rattle.apl_statements.specs.Moves.{Comes, if_there, part_gives, part_takes};
 ghost use Rattle.apl_statements.specs.Operands.{operand_count};
@@ -31,7 +31,7 @@ use std::sync::ledger::Ledger;
 
 /// A primitive function, or an operator with its operands, of the newest values of a statement: the right argument, and above it
 /// the axis and the left one where they are asked for. The statement goes on with what the function gives, in their place. A
-/// report comes also where there is no memory, but for that of ⍕.
+/// report comes also where there is no memory.
 pub fn perform_verb<L: Ledger>(
     interpreter: &Interpreter,
     e: &mut Evaluation,
@@ -43,27 +43,27 @@ pub fn perform_verb<L: Ledger>(
     requires sound { IsCaller interpreter.now.workspace e.old }
     ensures rises { steps.old ≤ steps.new }
     ensures comes { Comes interpreter.now (part_takes interpreter.now e.old (apply_step ran (fun.Verb verb) (if_there has_left) (if_there has_axis))) (steps.new - steps.old) interpreter.now (went_on e.new result) }
-    ensures memory { wants_memory_first verb ≡ false → OnWantOfMemory result (NoReportIsDue interpreter.now (apply_step no_lines (fun.Verb verb) (if_there has_left) (if_there has_axis) (stack_values interpreter.now.workspace e.old))) }
+    ensures memory { OnWantOfMemory result (NoReportIsDue interpreter.now (apply_step no_lines (fun.Verb verb) (if_there has_left) (if_there has_axis) (stack_values interpreter.now.workspace e.old))) }
     ensures sound { OnOk result (IsEvaluation interpreter.now.workspace e.new) }
     ensures left { OnOk result (parts_left e.new ≡ parts_left e.old) }
 {
     match first_operand(e, has_left, has_axis) {
         None => Err(Fail::Report(Report::Value)),
         Some(first) => {
-            let given = verb_of(interpreter, e, verb, first, has_left, has_axis, steps);
-            keep_oldest(e, first);
-            let array = given?;
-            e.push(StackValue::Made(array))?;
+            let array = verb_of(interpreter, e, verb, first, has_left, has_axis, steps)?;
+            put_at(e, first, array);
             Ok(())
         }
     }
 }
 
-// Only the oldest values of a statement stay, so many.
-fn keep_oldest(e: &mut Evaluation, count: usize)
-    ensures { IsWithValues e.old (take count e.old.values.items) e.new }
+// An array takes the place of the values of a statement from a place on.
+fn put_at(e: &mut Evaluation, place: usize, array: Array)
+    requires { place < length e.old.values.items }
+    ensures { IsWithValues e.old (take place e.old.values.items ++ held.Made array ∷ []) e.new }
 {
-    e.values.truncate(count);
+    e.values[place] = StackValue::Made(array);
+    e.values.truncate(place + 1);
 }
 
 // The place of the right argument among the values of a statement, where all arguments are there.
@@ -102,7 +102,7 @@ fn verb_of<L: Ledger>(
     requires first { first + operand_count has_left has_axis ≡ length e.now.values.items }
     ensures rises { steps.old ≤ steps.new }
     ensures gives { (under : EvaluationOf) → IsWithValues e.now (take first e.now.values.items) under → ComesToGive interpreter.now (part_takes interpreter.now e.now (apply_step ran (fun.Verb verb) (if_there has_left) (if_there has_axis))) (steps.new - steps.old) under result }
-    ensures memory { wants_memory_first verb ≡ false → UnlessReport result (NoReportIsDue interpreter.now (apply_step no_lines (fun.Verb verb) (if_there has_left) (if_there has_axis) (stack_values interpreter.now.workspace e.now))) }
+    ensures memory { UnlessReport result (NoReportIsDue interpreter.now (apply_step no_lines (fun.Verb verb) (if_there has_left) (if_there has_axis) (stack_values interpreter.now.workspace e.now))) }
 {
     let right = &e.values[first];
     let left = if_asked(has_left, e.values.last());
@@ -135,7 +135,7 @@ pub fn number_of_axis(
 }
 
 // A primitive function, or an operator with its operands, through the one door. It counts one application. A report comes
-// also where there is no memory, but for that of ⍕.
+// also where there is no memory.
 fn apply_verb<L: Ledger>(
     interpreter: &Interpreter,
     e: &Evaluation,
@@ -149,7 +149,7 @@ fn apply_verb<L: Ledger>(
     requires right { IsStackValue interpreter.now.workspace (parts_of e.now) right.now }
     ensures rises { steps.old ≤ steps.new }
     ensures gives { (under : EvaluationOf) → ComesToGive interpreter.now (part_gives interpreter.now under (λ s. valued (application verb (option_map (stack_value interpreter.now.workspace (parts_of e.now)) (option_copied left.entry)) (stack_value interpreter.now.workspace (parts_of e.now) right.now) axis s))) (steps.new - steps.old) under result }
-    ensures memory { wants_memory_first verb ≡ false → UnlessReport result (NoReportIsDue interpreter.now (application verb (option_map (stack_value interpreter.now.workspace (parts_of e.now)) (option_copied left.entry)) (stack_value interpreter.now.workspace (parts_of e.now) right.now) axis)) }
+    ensures memory { UnlessReport result (NoReportIsDue interpreter.now (application verb (option_map (stack_value interpreter.now.workspace (parts_of e.now)) (option_copied left.entry)) (stack_value interpreter.now.workspace (parts_of e.now) right.now) axis)) }
 {
     if !may_be_applied(&verb, left.is_some(), axis.is_some()) {
         return Err(Fail::Report(Report::Syntax));

@@ -13,8 +13,8 @@ use std::mem;
 use sv_events::Act;
 
 /// A workspace and what is under way on it: the lines that were not taken yet, the statements that may still be begun, the
-/// line as read, and the functions under way with the innermost last. It is seen as plain data. Beside that it keeps an empty
-/// list of values for the next statement, and texts of which it is known how they are read.
+/// line as read, and the functions under way with the innermost last. It is seen as plain data. Beside that it keeps lists of
+/// values that no statement has, and texts of which it is known how they are read.
 #[derive(Drop)]
 pub struct Interpreter {
     pub alloc: Global,
@@ -23,7 +23,7 @@ pub struct Interpreter {
     pub statements: u32,
     pub input: Line,
     pub callers: Vec<Waiting>,
-    pub room: Vec<StackValue>,
+    pub rooms: Vec<Vec<StackValue>>,
     pub known: Vec<Option<KnownLine>>,
 }
 
@@ -52,7 +52,7 @@ impl Interpreter {
             statements: 0,
             input: List::new(alloc),
             callers: Vec::new(alloc),
-            room: Vec::new(alloc),
+            rooms: Vec::new(alloc),
             known: Vec::new(alloc),
         }
     }

@@ -6,26 +6,28 @@ use crate::evaluation::Evaluation;
 use crate::interpreter::Interpreter;
 use apl_arrays::{Line, WantOfMemory};
 use apl_values::{KnownLine, LineReading, StackValue};
-use std::mem;
 use std::sync::Arc;
 
 /// How many texts are known at a time.
 const KNOWN_LIMIT: usize = 64;
 
 impl Interpreter {
-    /// A list for the values of a statement: the one that was given back last.
+    /// A list for the values of a statement: the one that was given back last, of those that no statement has.
     pub fn take_room(&mut self) -> Vec<StackValue>
         ensures { self.new ≡ self.old }
     {
-        mem::replace(&mut self.room, Vec::new(self.alloc))
+        match self.rooms.pop() {
+            None => Vec::new(self.alloc),
+            Some(room) => room,
+        }
     }
 
-    /// A statement is over: the next one has its list of values.
+    /// A statement is over: another one has its list of values, where there is memory for its place.
     pub fn give_room(&mut self, e: Evaluation)
         ensures { self.new ≡ self.old }
     {
         let Evaluation { values, .. } = e;
-        self.room = values;
+        drop(self.rooms.push(values));
     }
 
     /// The reading of a text, where the text is known and the workspace reads it so.

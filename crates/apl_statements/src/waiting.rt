@@ -3,8 +3,8 @@ use apl_arrays::Name;
 use apl_values::LineReading;
 use std::sync::Arc;
 
-/// A function under way: its name, the number of its line under evaluation, its lines that were read since it was
-/// entered, and the statement that called it.
+/// A function under way: its name, the number of its line under evaluation, the readings of its lines that are kept, which
+/// were read since it was entered, and the statement that called it.
 #[derive(Debug, Drop)]
 pub struct Waiting {
     pub name: Name,

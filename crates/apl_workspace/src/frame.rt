@@ -1,4 +1,4 @@
-ghost use Rattle.std.specs.Prelude.{◌≡◌, ◌+◌, ◌*◌, ◌++◌, ◌≤◌, ℕ, List as ListOf, OnOk, IfOk, fold};
+ghost use Rattle.std.specs.Prelude.{◌≡◌, ◌+◌, ◌*◌, ◌++◌, ◌≤◌, ℕ, List as ListOf, [], OnOk, IfOk, fold};
 ghost use Rattle.std.specs.Option.{option_copied, option_map, option_or, option_to_list};
 ghost use Rattle.apl_arrays.specs.Limits.{most_elements};
 ghost use Rattle.apl_workspace.specs.Frame.{argument_weight, frame_of, header_names, with_argument, with_labelled_line, with_local_name};
@@ -7,19 +7,30 @@ ghost use Rattle.apl_workspace.specs.Label.{labelled_line};
 ghost use Rattle.apl_workspace.specs.Meaning.{meaning_in, table_weight};
 
 use crate::label::{LabelledLine, has_label};
-use crate::table::Table;
+use crate::local_names::LocalNames;
 use crate::{Args, Function, Header, Meaning};
 use apl_arrays::{Array, Name, WantOfMemory};
 
 /// The frame of a function that is called with these arguments, in a table that is emptied first: the names of its header but
 /// its own, and its labels, which hide those. It takes memory for the names where the table has no room for them.
 #[tactic(auto, using(crate::proofs::FrameLaw::labels_put))]
-pub fn frame_of(room: Table, function: &Function, args: Args) -> Result<Table, WantOfMemory>
+pub fn frame_of(
+    room: LocalNames,
+    function: &Function,
+    args: Args,
+) -> Result<LocalNames, WantOfMemory>
     ensures { IfOk result (λ frame. frame ≡ frame_of function.now args) }
 {
+    let mut room = room;
+    room.clear_for(names_of(function));
     let mut frame = header_names(room, function.header(), args)?;
     put_labels(&mut frame, function.labels())?;
     Ok(frame)
+}
+
+/// About how many names the frame of a function has.
+fn names_of(function: &Function) -> usize {
+    function.header().locals.as_slice().len() + function.labels().len() + 3
 }
 
 /// What the frame of a function that is called with these arguments weighs: they themselves, but those that a label hides.
@@ -51,11 +62,11 @@ fn argument_weight(labels: &[LabelledLine], name: Option<Name>, value: Option<&A
 
 /// The names of a header but the function's own: the arguments with their values, the result and the local names without.
 #[tactic(auto, using(crate::proofs::Entering::result_and_locals))]
-fn header_names(room: Table, header: &Header, args: Args) -> Result<Table, WantOfMemory>
+fn header_names(room: LocalNames, header: &Header, args: Args) -> Result<LocalNames, WantOfMemory>
+    requires { room ≡ [] }
     ensures { IfOk result (λ names. names ≡ header_names header.now args) }
 {
     let mut names = room;
-    names.clear();
     put_argument(&mut names, header.left, args.left)?;
     put_argument(&mut names, header.right, args.right)?;
     put_result(&mut names, header.result)?;
@@ -65,7 +76,7 @@ fn header_names(room: Table, header: &Header, args: Args) -> Result<Table, WantO
 
 /// Puts an argument in, where the header has it.
 fn put_argument(
-    names: &mut Table,
+    names: &mut LocalNames,
     name: Option<Name>,
     value: Option<Array>,
 ) -> Result<(), WantOfMemory>
@@ -86,7 +97,7 @@ fn put_argument(
 }
 
 /// Puts the name of the result in, where the header has one; it has no value yet.
-fn put_result(names: &mut Table, name: Option<Name>) -> Result<(), WantOfMemory>
+fn put_result(names: &mut LocalNames, name: Option<Name>) -> Result<(), WantOfMemory>
     ensures { OnOk result (names.new ≡ fold with_local_name names.old (option_to_list name)) }
 {
     match name {
@@ -97,7 +108,7 @@ fn put_result(names: &mut Table, name: Option<Name>) -> Result<(), WantOfMemory>
 
 /// Puts local names in that have no value yet.
 #[tactic(auto, using(crate::proofs::Entering::locals_on))]
-fn put_locals(names: &mut Table, locals: &[Name]) -> Result<(), WantOfMemory>
+fn put_locals(names: &mut LocalNames, locals: &[Name]) -> Result<(), WantOfMemory>
     ensures { OnOk result (names.new ≡ fold with_local_name names.old locals.now) }
 {
     for name in locals {
@@ -108,7 +119,7 @@ fn put_locals(names: &mut Table, locals: &[Name]) -> Result<(), WantOfMemory>
 
 /// Puts labels in.
 #[tactic(auto, using(crate::proofs::Entering::labels_on))]
-fn put_labels(names: &mut Table, labels: &[LabelledLine]) -> Result<(), WantOfMemory>
+fn put_labels(names: &mut LocalNames, labels: &[LabelledLine]) -> Result<(), WantOfMemory>
     ensures { OnOk result (names.new ≡ fold with_labelled_line names.old labels.now) }
 {
     for labelled in labels {

@@ -5,12 +5,12 @@ ghost use Rattle.apl_workspace.specs.Limits.{most_weight};
 ghost use Rattle.apl_workspace.specs.Meaning.{IsWhole, meaning_weight, table_weight};
 
 use crate::Meaning;
-use crate::table::Table;
+use crate::local_names::LocalNames;
 use apl_arrays::{Fail, Name};
 
 /// What a name stands for in the innermost frame that has it: the last one.
 #[tactic(auto, using(crate::proofs::Innermost::innermost_found, crate::proofs::Innermost::innermost_goes_on))]
-pub fn innermost<'a>(frames: &'a [Table], name: &Name) -> Option<&'a Meaning>
+pub fn innermost<'a>(frames: &'a [LocalNames], name: &Name) -> Option<&'a Meaning>
     ensures value { option_copied result ≡ innermost (reverse frames.entry.now) name.now }
     ensures whole { IfSome result (λ meaning. IsWhole name.now meaning.now) }
 {
@@ -27,7 +27,7 @@ pub fn innermost<'a>(frames: &'a [Table], name: &Name) -> Option<&'a Meaning>
 
 /// The place of the innermost frame that has the name.
 #[tactic(auto, using(crate::proofs::Innermost::place_found, crate::proofs::Innermost::place_goes_on, crate::proofs::Innermost::no_place))]
-pub fn innermost_place(frames: &[Table], name: &Name) -> Option<usize>
+pub fn innermost_place(frames: &[LocalNames], name: &Name) -> Option<usize>
     ensures inside { IfSome result (λ at. at < length frames.now) }
     ensures place { MatchOption result (innermost (reverse frames.now) name.now ≡ None) (IsInnermostAt frames.now name.now) }
 {
@@ -45,7 +45,7 @@ pub fn innermost_place(frames: &[Table], name: &Name) -> Option<usize>
 /// Puts what a name stands for into the frame at a place, the innermost that has the name, and answers what all frames
 /// weigh then. `WsFull` where they would weigh more than they may; it leaves them as they were. It takes no memory.
 pub fn put_innermost(
-    frames: &mut [Table],
+    frames: &mut [LocalNames],
     at: usize,
     weight: usize,
     name: Name,
@@ -75,7 +75,7 @@ pub fn put_innermost(
 /// Whether all frames weigh at most `most` once a name stands for something of this weight in the frame at a place, the
 /// innermost that has the name.
 pub fn fits_innermost(
-    frames: &[Table],
+    frames: &[LocalNames],
     at: usize,
     weight: usize,
     name: &Name,

@@ -4,6 +4,7 @@
 mod args;
 mod blanks;
 pub mod call_laws;
+mod few_names;
 mod frame;
 mod frames;
 mod function;
@@ -11,6 +12,7 @@ mod header;
 mod label;
 pub mod laws;
 mod limits;
+mod local_names;
 mod meaning;
 mod remake;
 mod room;

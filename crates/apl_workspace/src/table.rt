@@ -95,16 +95,16 @@ impl Table {
         ensures there { IsSome (meaning_in self.old name) → IfErr result (λ fail. fail ≡ Fail.Report Report.WsFull) }
     {
         let after = meaning.weight();
-        let Some(there) = self.names.get_mut(&name) else {
+        let Some(at) = place_in(&self.names, &name) else {
             return self.put_new(name, meaning, after, most);
         };
-        let weight = self.weight - there.weight() + after;
+        let weight = self.weight - self.names[at].weight() + after;
         if weight > most {
             drop(meaning);
             return Err(Fail::Report(Report::WsFull));
         }
         self.weight = weight;
-        *there = meaning;
+        self.names[at] = meaning;
         Ok(())
     }
 
@@ -272,9 +272,9 @@ impl Table {
         ensures value { result ≡ weight_in self.now name.now }
         ensures within { result ≤ table_weight self.now }
     {
-        match self.names.get(name) {
+        match place_in(&self.names, name) {
             None => 0,
-            Some(meaning) => meaning.weight(),
+            Some(at) => self.names[at].weight(),
         }
     }
 }
@@ -282,6 +282,7 @@ impl Table {
 /// The place of a name. Few names are gone over one by one, and more are found by their hash.
 #[tactic(auto, using(crate::proofs::Scanned::place_within, crate::proofs::Scanned::place_value, crate::proofs::Scanned::no_place_found))]
 fn place_in(names: &IndexMap<Name, Meaning>, name: &Name) -> Option<usize>
+    ensures place { result ≡ position (same_name name.now) (keys_of names.now.entries) }
     ensures within { IfSome result (λ at. at < length names.now.entries) }
     ensures value { IfSome result (λ at. slice_get (values_of names.now.entries) at ≡ meaning_in names.now.entries name.now) }
     ensures none { result ≡ None → meaning_in names.now.entries name.now ≡ None }

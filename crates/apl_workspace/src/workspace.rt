@@ -11,6 +11,7 @@ mod fitting;
 mod offers;
 
 use crate::frames::innermost;
+use crate::local_names::LocalNames;
 use crate::table::Table;
 use crate::{Meaning, Remake, RemakeList, Seen, What};
 use apl_arrays::{List, Name, NameList, WantOfMemory};
@@ -23,11 +24,11 @@ use std::marker::Model;
 pub struct Workspace {
     alloc: Global,
     globals: Table,
-    frames: Vec<Table>,
+    frames: Vec<LocalNames>,
     frames_weight: usize,
     offers: Vec<Remake>,
     printed: u64,
-    tables: Vec<Table>,
+    tables: Vec<LocalNames>,
 }
 
 impl Model for Workspace {

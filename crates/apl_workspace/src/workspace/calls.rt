@@ -4,8 +4,8 @@ ghost use Rattle.apl_workspace.specs.Workspace.{AreArgumentsFor, IsFrameFor, IsF
 
 use crate::frame::{frame_of, frame_weight};
 use crate::limits::{DEPTH_LIMIT, WEIGHT_LIMIT};
+use crate::local_names::LocalNames;
 use crate::room::reserve_one;
-use crate::table::Table;
 use crate::{Args, Seen, Workspace};
 use apl_arrays::{Fail, Name, Report};
 use std::alloc::Global;
@@ -53,7 +53,7 @@ impl Workspace {
 
     /// The frame of the function that a name stands for, in this table. `WsFull` where the workspace would weigh more than
     /// it may with the frame, also where there is no memory.
-    fn frame_for(&self, room: Table, function: &Name, args: Args) -> Result<Table, Fail>
+    fn frame_for(&self, room: LocalNames, function: &Name, args: Args) -> Result<LocalNames, Fail>
         requires { AreArgumentsFor (look self.now function.now) args }
         ensures frame { IfOk result (λ frame. IsFrameFor (look self.now function.now) args frame) }
         ensures fits { OnOk result (workspace_weight (with_frame self.now function.now args) ≤ most_weight) }
@@ -75,16 +75,16 @@ impl Workspace {
 }
 
 /// A table for a frame: one that a function left, where there is one.
-fn take_table(alloc: Global, tables: &mut Vec<Table>) -> Table {
+fn take_table(alloc: Global, tables: &mut Vec<LocalNames>) -> LocalNames {
     match tables.pop() {
-        None => Table::new(alloc),
+        None => LocalNames::new(alloc),
         Some(table) => table,
     }
 }
 
 /// A table that a function left is emptied, and kept for another frame where there is memory for its place.
-fn keep_table(tables: &mut Vec<Table>, table: Table) {
+fn keep_table(tables: &mut Vec<LocalNames>, table: LocalNames) {
     let mut table = table;
-    table.clear();
+    table.clear_for(0);
     drop(tables.push(table));
 }

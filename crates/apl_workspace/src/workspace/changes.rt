@@ -1,4 +1,5 @@
-ghost use Rattle.std.specs.Prelude.{◌≡◌, ◌≤◌, true, false, Some, IsOk, IsSome, OnOk, OnErr, IfErr, is_some};
+ghost use Rattle.std.specs.Prelude.{◌≡◌, ◌≤◌, true, false, Some, Ok, IsOk, IsSome, OnOk, OnErr, IfErr, is_some};
+ghost use Rattle.apl_arrays.specs.Array.{scalar};
 ghost use Rattle.apl_workspace.specs.Function.{IsFunction};
 ghost use Rattle.apl_workspace.specs.Limits.{most_weight};
 ghost use Rattle.apl_workspace.specs.Meaning.{IsGlobal, is_shared_meaning, is_variable_meaning, meaning_in};
@@ -26,6 +27,25 @@ impl Workspace {
             return Err(Fail::Report(Report::Syntax));
         }
         self.give(name, value)
+    }
+
+    /// Gives a name a number as `assign` does, unless it is shared: then nothing changes. It tells whether it was given.
+    pub fn assign_number(&mut self, name: &Name, number: i64) -> Result<bool, Fail>
+        ensures given { result ≡ Ok true → (is_shared_meaning (look self.old name.now) ≡ false) × (self.new ≡ assigned self.old name.now (scalar number)) }
+        ensures shared { result ≡ Ok false → (is_shared_meaning (look self.old name.now) ≡ true) × (self.new ≡ self.old) }
+        ensures assignable { OnOk result (is_assignable (look self.old name.now) ≡ true) }
+        ensures fits { result ≡ Ok true → workspace_weight (assigned self.old name.now (scalar number)) ≤ most_weight }
+        ensures err { OnErr result (self.new ≡ self.old) }
+        ensures refused { IfErr result (IsNotAssigned (is_there self.old name.now) (is_assignable (look self.old name.now)) (assigned self.old name.now (scalar number))) }
+    {
+        match self.look(name) {
+            Seen::Function(_) | Seen::Label(_) => Err(Fail::Report(Report::Syntax)),
+            Seen::Shared(_) => Ok(false),
+            Seen::Nothing | Seen::Value(_) => {
+                self.give(name, Array::of_number(number))?;
+                Ok(true)
+            }
+        }
     }
 
     /// Defines a function under its name, in place of one that is there. `WsFull` where the workspace would weigh more

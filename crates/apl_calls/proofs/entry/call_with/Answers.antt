@@ -1,36 +1,25 @@
-use Rattle.std.proofs.Common.{◌≡◌, ◌≤◌, ℕ, Bool, true, List, leb, refl, sym, ap, subst, ◌∙◌}
-use Rattle.std.specs.Prelude.{is_some, Option, Some, None, option_map}
+use Rattle.std.proofs.Common.{◌≡◌, ◌≤◌, Bool, true, sym, ap, subst, ◌∙◌}
+use Rattle.std.specs.Prelude.{is_some}
 use Rattle.std.specs.Option.{option_copied}
 use Rattle.std.proofs.lemmas.Bool.{leb-true}
 use Rattle.std.proofs.lemmas.Result.{err_from_is_err_and}
 use Rattle.apl_arrays.specs.declared.report.Fail.TheVariants as fail
 use Rattle.apl_selection.proofs.WantLemmas.{on_want}
 use Rattle.apl_workspace.specs.Limits.{most_weight}
-use Rattle.apl_workspace.specs.Workspace.{PlainWorkspace, look, with_frame, workspace_weight}
+use Rattle.apl_workspace.specs.Workspace.{look, with_frame, workspace_weight}
 use Rattle.apl_workspace.specs.declared.args.Args.{Args}
 use Rattle.apl_workspace.specs.declared.meaning.Meaning.{Meaning}
 use Rattle.apl_meaning.specs.Calls.{call}
 use Rattle.apl_meaning.specs.Meaning.{ran}
-use Rattle.apl_values.specs.declared.values.StackValue.{StackValue}
 use Rattle.apl_values.specs.Values.{stack_value}
-use Rattle.apl_statements.specs.declared.evaluation.Evaluation.{Evaluation}
 use Rattle.apl_statements.specs.Evaluating.{takes_by}
 use Rattle.apl_statements.specs.Interpreter.{PlainInterpreter}
 use Rattle.apl_statements.specs.Moves.{Comes, part_gives}
 use Rattle.apl_statements.specs.Holding.{parts_of}
 use Rattle.apl_statements.proofs.Same.{comes_exit}
 use Rattle.apl_calls.specs.Callings.{MayBeCalled, arguments, takes_so}
-use Rattle.apl_calls.proofs.Enters.{may_call, not_called, takes_as}
+use Rattle.apl_calls.proofs.Enters.{fitting, mapped, may_call, not_called, takes_as}
 use Rattle.apl_calls.proofs.entry.call_with.Goals as goal
-
-mapped : {A B : Type 0} (f : A → B) (found : Option A) → is_some (option_map f found) ≡ is_some found
-mapped f None = refl
-mapped f (Some a) = refl
-
--- whether the frame fits is asked of what is lent
-fitting : (w : PlainWorkspace) (caller : Evaluation) (name : List ℕ) (lent left : Option StackValue) (right : StackValue) (fits : Bool) → fits ≡ leb (workspace_weight (with_frame w name (arguments w caller lent right))) most_weight → lent ≡ left
-    → fits ≡ leb (workspace_weight (with_frame w name (arguments w caller left right))) most_weight
-fitting w caller name lent left right fits is same = is ∙ ap (λ (held : Option StackValue). leb (workspace_weight (with_frame w name (arguments w caller held right))) most_weight) same
 
 pub returns-in_err-may_be_called-clause-comes : goal.returns-in_err-may_be_called-clause-comes
 returns-in_err-may_be_called-clause-comes c =

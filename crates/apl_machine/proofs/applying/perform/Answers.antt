@@ -29,7 +29,7 @@ use Rattle.apl_statements.proofs.Same.{SameAt, at_once, comes_as, comes_exit}
 use Rattle.apl_statements.proofs.Taken.{taken_held, taken_sound}
 use Rattle.apl_statements.proofs.Wants.{want_exit}
 use Rattle.apl_calls.specs.Callings.{MayBeCalled}
-use Rattle.apl_machine.specs.Wants.{no_lines, takes_memory_first}
+use Rattle.apl_machine.specs.Wants.{no_lines}
 use Rattle.apl_machine.proofs.Performs.{axis_held, left_held, no_axis_as, performs_as, performs_none, right_held}
 use Rattle.apl_machine.proofs.WantPerforms.{defined_free, no_axis_wants, performs_free, system_free, want_told}
 use Rattle.apl_machine.proofs.applying.perform.Given.{Over}
@@ -147,7 +147,7 @@ free_it g c f is free =
     (subst (λ (one : Fun). NoReportIsDue m (performed no_lines one (arrays_of m after c.in_ok-left.field-0.left) (stack_value m.workspace (parts_of after) c.in_ok-left.field-0.right) c.in_ok-number.number)) (sym is) free)
 
 pub returns-in_err-number-clause-memory : goal.returns-in_err-number-clause-memory
-returns-in_err-number-clause-memory g c last =
+returns-in_err-number-clause-memory g c =
     let m : PlainInterpreter = c.args.interpreter.now in
     let exit = err_from_is_err_and c.from_residual-in_err-number.result c.from_residual-in_err-number.ensures.1 in
     let why : exit.0 ≡ c.in_err-number.field-0.0 = cc exit.2 in
@@ -155,12 +155,12 @@ returns-in_err-number-clause-memory g c last =
     (want_told Flow Flow c.in_err-number.field-0.0 (due m c.args.e c.args.function c.args.has_left c.args.has_axis) (no_axis_wants Flow (option_map (stack_value m.workspace (parts_of c.take_operands.new.self)) c.in_ok-left.field-0.axis) c.in_err-number.field-0.0 (due m c.args.e c.args.function c.args.has_left c.args.has_axis) c.in_err-number.ensures.refused))
 
 pub returns-in-Verb-clause-memory : goal.returns-in-Verb-clause-memory
-returns-in-Verb-clause-memory g c last =
+returns-in-Verb-clause-memory g c =
     let m : PlainInterpreter = c.args.interpreter.now in
-    subst (λ (f : Fun). OnWantOfMemory c.verb_flow.result (due m c.args.e f c.args.has_left c.args.has_axis)) (sym c.in-Verb.is) (c.verb_flow.ensures.memory (ap takes_memory_first (sym c.in-Verb.is) ∙ last))
+    subst (λ (f : Fun). OnWantOfMemory c.verb_flow.result (due m c.args.e f c.args.has_left c.args.has_axis)) (sym c.in-Verb.is) c.verb_flow.ensures.memory
 
 pub returns-in-Defined-clause-memory : goal.returns-in-Defined-clause-memory
-returns-in-Defined-clause-memory g c last =
+returns-in-Defined-clause-memory g c =
     let d = (goal.at.returns-in-Defined-clause-memory g c).In_ok-number in
     let m : PlainInterpreter = c.args.interpreter.now in
     let left : Option PlainArray = arrays_of m c.take_operands.new.self c.in_ok-left.field-0.left in
@@ -169,7 +169,7 @@ returns-in-Defined-clause-memory g c last =
     (λ may. free_it g d (fun.Defined c.in-Defined.name) c.in-Defined.is (defined_free m c.in-Defined.name left right c.in_ok-number.number may)) c.call_with.ensures.memory
 
 pub returns-in-System-clause-memory : goal.returns-in-System-clause-memory
-returns-in-System-clause-memory g c last =
+returns-in-System-clause-memory g c =
     let d = (goal.at.returns-in-System-clause-memory g c).In_ok-number in
     let m : PlainInterpreter = c.args.interpreter.now in
     let left : Option PlainArray = arrays_of m c.take_operands.new.self c.in_ok-left.field-0.left in

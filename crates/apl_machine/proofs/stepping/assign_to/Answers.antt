@@ -1,4 +1,5 @@
-use Rattle.std.proofs.Common.{Bool, sym, subst}
+use Rattle.std.proofs.Common.{Bool, sym, subst, ◌∙◌}
+use Rattle.std.proofs.lemmas.Bool.{false≢true}
 use Rattle.apl_items.specs.Places.{OnWantOfMemory}
 use Rattle.apl_workspace.specs.Workspace.{look}
 use Rattle.apl_statements.specs.Interpreter.{PlainInterpreter}
@@ -27,3 +28,9 @@ pub returns-else-has_subs-clause-memory : goal.returns-else-has_subs-clause-memo
 returns-else-has_subs-clause-memory c =
     let m : PlainInterpreter = c.args.interpreter.now in
     subst (λ (b : Bool). OnWantOfMemory c.assign.result (MayBeAssigned (given_places b (places_at c.args.e c.args.at)) m.workspace c.args.e (look m.workspace c.args.name))) (sym c.if-has_subs.false) c.assign.ensures.memory
+
+pub returns-then-has_subs-clause-due : goal.returns-then-has_subs-clause-due
+returns-then-has_subs-clause-due c none = absurd (false≢true (sym none ∙ c.if-has_subs.true))
+
+pub returns-else-has_subs-clause-due : goal.returns-else-has_subs-clause-due
+returns-else-has_subs-clause-due c none = c.assign.ensures.due

@@ -9,10 +9,10 @@ use Rattle.apl_machine.proofs.stepping.held_of.Goals as goal
 
 pub returns-in-Value : goal.returns-in-Value
 returns-in-Value c =
-    let seen : look c.args.interpreter.now.workspace c.args.name ≡ meaning.Value c.in-Value.field-0.now = ap (λ (n : PlainInterpreter). look n.workspace c.args.name) (sym c.interpreter.view_is) ∙ sym c.in-Value.ensures.value in
-    subst (λ (found : Meaning). IsHeldFor found c.args.name (held.Named c.args.name)) (sym seen) refl
+    let seen : look c.args.interpreter.now.workspace c.args.name.now ≡ meaning.Value c.in-Value.array.now = ap (λ (n : PlainInterpreter). look n.workspace c.args.name.now) (sym c.interpreter.view_is) ∙ sym c.in-Value.ensures.value in
+    subst (λ (found : Meaning). IsHeldFor found c.args.name.now c.held_for.result) (sym seen) c.held_for.ensures
 
 pub returns-in-Label : goal.returns-in-Label
 returns-in-Label c =
-    let seen : look c.args.interpreter.now.workspace c.args.name ≡ meaning.Label c.in-Label.line = ap (λ (n : PlainInterpreter). look n.workspace c.args.name) (sym c.interpreter.view_is) ∙ sym c.in-Label.ensures.value in
-    subst (λ (found : Meaning). IsHeldFor found c.args.name (held.Made c.number_of.result)) (sym seen) (ap held.Made c.number_of.ensures)
+    let seen : look c.args.interpreter.now.workspace c.args.name.now ≡ meaning.Label c.in-Label.line = ap (λ (n : PlainInterpreter). look n.workspace c.args.name.now) (sym c.interpreter.view_is) ∙ sym c.in-Label.ensures.value in
+    subst (λ (found : Meaning). IsHeldFor found c.args.name.now (held.Made c.number_of.result)) (sym seen) (ap held.Made c.number_of.ensures)

@@ -1,6 +1,10 @@
-use Rattle.std.proofs.Common.{◌≡◌, ◌-◌, Bool, refl, sym, ap, subst, ◌∙◌, arith}
-use Rattle.std.specs.Prelude.{ℕ, None, Option, Some, is_some, List, option_map, slice_get}
+use Rattle.std.proofs.Common.{◌≡◌, ◌-◌, Bool, true, false, refl, sym, ap, subst, ◌∙◌, arith}
+use Rattle.std.specs.Prelude.{ℕ, Result, None, Option, Some, is_some, List, option_map, slice_get}
 use Rattle.apl_arrays.specs.Array.{PlainArray, PlainItems, plain_items}
+use Rattle.apl_arrays.specs.List.{Listed}
+use Rattle.apl_arrays.specs.declared.report.Fail.{Fail}
+use Rattle.apl_items.specs.Places.{OnWantOfMemory}
+use Rattle.apl_statements.specs.declared.flow.Flow.{Flow}
 use Rattle.apl_arrays.specs.declared.report.Report.TheVariants.{WsFull}
 use Rattle.apl_items.proofs.RowLemmas.{weaker_want}
 use Rattle.apl_selection.proofs.WantLemmas.{on_want}
@@ -13,7 +17,7 @@ use Rattle.line_trees.specs.declared.tree.Node.TheVariants as coded
 use Rattle.apl_meaning.specs.Calls.{call}
 use Rattle.apl_meaning.specs.Expressions.{valued}
 use Rattle.apl_meaning.specs.Meaning.{ran}
-use Rattle.apl_meaning.specs.Nodes.{apply_step, indexed_step, node_step}
+use Rattle.apl_meaning.specs.Nodes.{apply_step, assign_step, indexed_step, node_step}
 use Rattle.apl_meaning.specs.State.{gives, refuses}
 use Rattle.apl_meaning.specs.Variables.{reference}
 use Rattle.apl_values.specs.declared.values.StackValue.TheVariants as held
@@ -31,8 +35,8 @@ use Rattle.apl_subscripts.specs.Held.{places_at, places_in}
 use Rattle.apl_machine.specs.Nexts.{IsNext, given_places}
 use Rattle.apl_machine.proofs.StepParts.{given_is, next_apply, next_assign, next_constant, next_gives, next_paren, next_takes, next_too_large, passed, read_next, read_part, read_sound, to_come}
 use Rattle.apl_calls.specs.Callings.{MayBeCalled}
-use Rattle.apl_machine.specs.Wants.{no_lines}
-use Rattle.apl_machine.proofs.WantSteps.{apply_free, apply_looks, assign_late, constant_free, niladic_free, node_free, not_first, value_free}
+use Rattle.apl_machine.specs.Wants.{looks_first, no_lines}
+use Rattle.apl_machine.proofs.WantSteps.{apply_free, constant_free, items_late, niladic_free, node_free, value_free}
 use Rattle.apl_machine.proofs.stepping.step.Given.{Over}
 use Rattle.apl_machine.proofs.stepping.step.Goals as goal
 use Rattle.apl_machine.proofs.stepping.step.Goals.{After-index, In-Other}
@@ -181,9 +185,18 @@ returns-in-Apply-clause-memory g c n next first =
     (λ free. node_free m e (node.apply c.in-Apply.function c.in-Apply.left c.in-Apply.right c.in-Apply.axis) n values own next
     (apply_free m c.in-Apply.function c.in-Apply.left c.in-Apply.right c.in-Apply.axis values
     (subst (λ (b : Bool). due m c.in-Apply.function values (is_some c.in-Apply.left) b) (sym has_axis) (subst (λ (b : Bool). due m c.in-Apply.function values b c.is_some-has_axis.result) (sym has_left) free))))
-    (c.perform.ensures.memory (apply_looks e c.in-Apply.function c.in-Apply.left c.in-Apply.right c.in-Apply.axis n own next first))
+    c.perform.ensures.memory
+
+-- an assignment to a name, where it is no assignment to items
+assigned : (m : PlainInterpreter) (e : Evaluation) (target : List ℕ) (subs : Option (Listed (Option ℕ))) (right : ℕ) (has_subs : Bool) (n : PlainNode) (values : List PlainArray) (r : Result Flow Fail) → is_some subs ≡ has_subs
+    → IsNext e (plain_node (coded.Assign target subs right)) → IsNext e n → looks_first n ≡ true → (has_subs ≡ false → OnWantOfMemory r (NoReportIsDue m (assign_step target values))) → OnWantOfMemory r (NoReportIsDue m (node_step no_lines n values))
+assigned m e target None right has_subs n values r is own next looks due =
+    weaker_want r (NoReportIsDue m (assign_step target values)) (NoReportIsDue m (node_step no_lines n values)) (λ free. node_free m e (node.assign target right) n values own next free) (due (sym is))
+assigned m e target (Some places) right has_subs n values r is own next looks due = absurd (items_late e target places right n own next looks)
 
 pub returns-in-Assign-clause-memory : goal.returns-in-Assign-clause-memory
 returns-in-Assign-clause-memory g c n next first =
+    let m : PlainInterpreter = c.args.interpreter.now in
     let own : IsNext c.args.e (plain_node (coded.Assign c.in-Assign.target c.in-Assign.subs c.in-Assign.right)) = next_is g (goal.at.returns-in-Assign-clause-memory g c).In-Other (coded.Assign c.in-Assign.target c.in-Assign.subs c.in-Assign.right) c.in-Assign.is in
-    absurd (not_first c.args.e _ n own next (assign_late c.in-Assign.target c.in-Assign.subs c.in-Assign.right) first)
+    let has_subs : is_some c.in-Assign.subs ≡ c.is_some-has_subs.result = cc in
+    assigned m c.args.e c.in-Assign.target c.in-Assign.subs c.in-Assign.right c.is_some-has_subs.result n (stack_values m.workspace c.args.e) c.assign_to.result has_subs own next first c.assign_to.ensures.due

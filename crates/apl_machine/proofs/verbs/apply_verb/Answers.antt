@@ -63,7 +63,7 @@ returns-clause-gives g c under =
     (tested g (goal.at.returns-clause-gives g c).After-may_be_applied ∙ c.if-not-may_be_applied.false) (omega (arith, c.apply.ensures.steps)) (subst (λ (a : ArrayResult). Answers c.apply.result a) (same g (goal.at.returns-clause-gives g c).After-apply) c.apply.ensures.value)
 
 pub returns-clause-memory : goal.returns-clause-memory
-returns-clause-memory g c first =
+returns-clause-memory g c =
     let m : PlainInterpreter = c.args.interpreter.now in
     let left : Option PlainArray = left_of m (parts_of c.args.e.now) (option_copied c.args.left) in
     let right : PlainArray = stack_value m.workspace (parts_of c.args.e.now) c.args.right.now in
@@ -71,4 +71,4 @@ returns-clause-memory g c first =
     let own = same g (goal.at.returns-clause-memory g c).After-apply in
     answer_free c.apply.result given (NoReportIsDue m (application c.args.verb left right c.args.axis))
     (applied_free m c.args.verb left right c.args.axis (tested g (goal.at.returns-clause-memory g c).After-may_be_applied ∙ c.if-not-may_be_applied.false))
-    (subst (λ (a : ArrayResult). Answers c.apply.result a) own c.apply.ensures.value) (subst (λ (a : ArrayResult). OnWantOfMemory c.apply.result (IsOk a)) own (c.apply.ensures.memory first))
+    (subst (λ (a : ArrayResult). Answers c.apply.result a) own c.apply.ensures.value) (subst (λ (a : ArrayResult). OnWantOfMemory c.apply.result (IsOk a)) own c.apply.ensures.memory)

@@ -25,7 +25,7 @@ use Rattle.apl_answers.specs.WentOn.{went_on}
 use Rattle.apl_machine.specs.Given.{ComesToGive}
 use Rattle.apl_machine.specs.Wants.{UnlessReport, no_lines}
 use Rattle.apl_machine.proofs.Gives.{given_refused}
-use Rattle.apl_machine.proofs.OperandsThere.{oldest_sound}
+use Rattle.apl_machine.proofs.OperandsThere.{oldest, oldest_waits, placed, placed_sound}
 use Rattle.apl_machine.proofs.Performs.{performs_none}
 use Rattle.apl_machine.proofs.WantPerforms.{want_told}
 use Rattle.apl_machine.proofs.verbs.perform_verb.Goals as goal
@@ -47,24 +47,27 @@ returns-in_err-array-in-Some-clause-comes g c =
     let m : PlainInterpreter = c.args.interpreter.now in
     let e : Evaluation = c.args.e.now in
     let coming : Coming = taking m e c.args.verb c.args.has_left c.args.has_axis in
-    let counted = c.verb_of-given.new.steps - c.args.steps.now in
-    let under : Evaluation = c.keep_oldest.new.e in
+    let counted = c.verb_of.new.steps - c.args.steps.now in
+    let under : Evaluation = oldest e c.in-Some.first in
     let exit = err_from_is_err_and c.from_residual.result c.from_residual.ensures.1 in
     let why : exit.0 ≡ c.in_err-array-in-Some.field-0.0 = cc exit.2 in
-    let came : ComesToGive m coming counted under (Err c.in_err-array-in-Some.field-0.0) = subst (λ (r : Result PlainArray Fail). ComesToGive m coming counted under r) c.in_err-array-in-Some.was (c.verb_of-given.ensures.gives under c.keep_oldest.ensures) in
-    comes_exit m m coming counted (went_on under c.from_residual.result) exit.0 c.in_err-array-in-Some.field-0.0 (ap (λ (r : Result (Unit {0}) Fail). went_on under r) exit.1) why (given_refused m coming counted under c.in_err-array-in-Some.field-0.0 came)
+    comes_exit m m coming counted (went_on e c.from_residual.result) exit.0 c.in_err-array-in-Some.field-0.0 (ap (λ (r : Result (Unit {0}) Fail). went_on e r) exit.1) why (given_refused m coming counted under c.in_err-array-in-Some.field-0.0 (c.in_err-array-in-Some.ensures.gives under (record { same = refl; values = refl })))
 
-pub returns-in_ok-push-in-Some-clause-comes : goal.returns-in_ok-push-in-Some-clause-comes
-returns-in_ok-push-in-Some-clause-comes g c =
+pub returns-in_ok-array-in-Some-clause-comes : goal.returns-in_ok-array-in-Some-clause-comes
+returns-in_ok-array-in-Some-clause-comes g c =
     let m : PlainInterpreter = c.args.interpreter.now in
     let e : Evaluation = c.args.e.now in
     let coming : Coming = taking m e c.args.verb c.args.has_left c.args.has_axis in
-    let counted = c.verb_of-given.new.steps - c.args.steps.now in
-    let under : Evaluation = c.keep_oldest.new.e in
+    let counted = c.verb_of.new.steps - c.args.steps.now in
+    let under : Evaluation = oldest e c.in-Some.first in
     let array : PlainArray = c.in_ok-array-in-Some.array in
-    comes_then m m m coming (part_gives m under (λ s. gives (Some array) s)) counted (Ok (flow.Evaluates c.push.new.self))
-    (subst (λ (r : Result PlainArray Fail). ComesToGive m coming counted under r) c.in_ok-array-in-Some.was (c.verb_of-given.ensures.gives under c.keep_oldest.ensures))
-    (push_comes m under c.push.new.self (held.Made array) (oldest_sound m.workspace e under c.in-Some.first c.keep_oldest.ensures c.requires.sound) c.in_ok-push-in-Some.ensures)
+    comes_then m m m coming (part_gives m under (λ s. gives (Some array) s)) counted (Ok (flow.Evaluates c.put_at.new.e))
+    (c.in_ok-array-in-Some.ensures.gives under (record { same = refl; values = refl }))
+    (push_comes m under c.put_at.new.e (held.Made array) (oldest_waits m.workspace e c.in-Some.first c.requires.sound) (placed e c.put_at.new.e c.in-Some.first array c.put_at.ensures))
+
+pub returns-in_ok-array-in-Some-clause-sound : goal.returns-in_ok-array-in-Some-clause-sound
+returns-in_ok-array-in-Some-clause-sound g c =
+    placed_sound c.args.interpreter.now.workspace c.args.e.now c.put_at.new.e c.in-Some.first c.in_ok-array-in-Some.array c.put_at.ensures c.requires.sound
 
 -- ---- where memory ran out
 
@@ -73,14 +76,9 @@ abbrev due : PlainInterpreter → Evaluation → Verb → Bool → Bool → Type
 due m e verb has_left has_axis = NoReportIsDue m (apply_step no_lines (fun.Verb verb) (if_there has_left) (if_there has_axis) (stack_values m.workspace e))
 
 pub returns-in_err-array-in-Some-clause-memory : goal.returns-in_err-array-in-Some-clause-memory
-returns-in_err-array-in-Some-clause-memory g c first =
+returns-in_err-array-in-Some-clause-memory g c =
     let fact : Type 0 = due c.args.interpreter.now c.args.e.now c.args.verb c.args.has_left c.args.has_axis in
     let exit = err_from_is_err_and c.from_residual.result c.from_residual.ensures.1 in
     let why : exit.0 ≡ c.in_err-array-in-Some.field-0.0 = cc exit.2 in
     want_exit c.from_residual.result exit.0 c.in_err-array-in-Some.field-0.0 fact exit.1 why
-    (want_told PlainArray (Unit {0}) c.in_err-array-in-Some.field-0.0 fact (subst (λ (r : Result PlainArray Fail). UnlessReport r fact) c.in_err-array-in-Some.was (c.verb_of-given.ensures.memory first)))
-
-pub returns-in_err-push-in-Some-clause-memory : goal.returns-in_err-push-in-Some-clause-memory
-returns-in_err-push-in-Some-clause-memory g c first =
-    let fact : Type 0 = due c.args.interpreter.now c.args.e.now c.args.verb c.args.has_left c.args.has_axis in
-    on_want c.from_residual-in_err-push-in-Some.result fact (subst (λ (r : Result PlainArray Fail). UnlessReport r fact) c.in_ok-array-in-Some.was (c.verb_of-given.ensures.memory first))
+    (want_told PlainArray (Unit {0}) c.in_err-array-in-Some.field-0.0 fact c.in_err-array-in-Some.ensures.memory)

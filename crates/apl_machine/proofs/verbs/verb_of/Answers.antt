@@ -93,7 +93,7 @@ abbrev due : PlainInterpreter → Evaluation → Verb → Bool → Bool → Type
 due m e verb has_left has_axis = NoReportIsDue m (apply_step no_lines (fun.Verb verb) (if_there has_left) (if_there has_axis) (stack_values m.workspace e))
 
 pub returns-clause-memory : goal.returns-clause-memory
-returns-clause-memory g c first =
+returns-clause-memory g c =
     let m : PlainInterpreter = c.args.interpreter.now in
     let e : Evaluation = c.args.e.now in
     let items : List StackValue = e.values.items in
@@ -105,10 +105,10 @@ returns-clause-memory g c first =
     (subst (λ (list : List StackValue). IsItemAt list (c.args.first + 1) c.get.result) c.deref-2.ensures.value c.get.ensures.lookup) c.if_asked-left.ensures c.if_asked-axis.ensures in
     weaker_unless c.apply_verb.result (NoReportIsDue m (application c.args.verb (option_map value operands.left) (value operands.right) c.in_ok-number.number)) (due m e c.args.verb c.args.has_left c.args.has_axis)
     (λ free. performs_there no_lines m e (fun.Verb c.args.verb) c.args.has_left c.args.has_axis (take c.args.first items) operands c.in_ok-number.number (before_operands items c.args.first c.args.has_left c.args.has_axis operands are) are.left are.axis
-    c.in_ok-number.ensures.ok (verb_free no_lines m c.args.verb (option_map value operands.left) (value operands.right) c.in_ok-number.number free)) (c.apply_verb.ensures.memory first)
+    c.in_ok-number.ensures.ok (verb_free no_lines m c.args.verb (option_map value operands.left) (value operands.right) c.in_ok-number.number free)) c.apply_verb.ensures.memory
 
 pub returns-in_err-number-clause-memory : goal.returns-in_err-number-clause-memory
-returns-in_err-number-clause-memory g c first =
+returns-in_err-number-clause-memory g c =
     let m : PlainInterpreter = c.args.interpreter.now in
     let e : Evaluation = c.args.e.now in
     let fact : Type 0 = due m e c.args.verb c.args.has_left c.args.has_axis in

@@ -1,77 +1,57 @@
-use Rattle.std.proofs.Common.{◌≡◌, ◌∙◌, None, ap, sym, subst, refl, arith, false, true}
+use Rattle.std.proofs.Common.{◌≡◌, ◌∙◌, None, Some, ap, sym, refl, arith, false, true}
 use Rattle.std.specs.Prelude.{is_some}
-use Rattle.std.specs.Option.{option_copied_mut}
-use Rattle.apl_workspace.specs.Meaning.{IsTable, NameTable, meaning_in, table_weight, with_meaning}
+use Rattle.apl_workspace.specs.Meaning.{NameTable, meaning_in, table_weight, with_meaning}
 use Rattle.apl_workspace.specs.Sorted.{sorted}
-use Rattle.apl_workspace.proofs.Ascending.{found}
-use Rattle.apl_workspace.proofs.InOrder.{kept_in_order, looked_up, put_in_order}
+use Rattle.apl_workspace.proofs.InOrder.{looked_up, set_in_order}
 use Rattle.apl_workspace.proofs.Tables.{anew_is_reckoned, is_table_with, never_over, weighs}
 use Rattle.apl_workspace.proofs.table.Table.put.Goals as goal
 
 pub put_new-requires-clause-new : goal.put_new-requires-clause-new
-put_new-requires-clause-new c =
-    ap (λ (m : _). meaning_in (sorted m.entries) c.args.name) c.get_mut.follows.holds-at-none ∙ sym (looked_up c.self.inside.names.entries c.args.name) ∙ sym c.get_mut.ensures.value ∙ ap option_copied_mut c.in_default.is
+put_new-requires-clause-new c = ap (λ (n : NameTable). meaning_in n c.args.name) (sym c.self.view_is) ∙ sym (looked_up c.self.inside.names.entries c.args.name) ∙ c.place_in.ensures.none c.in_default.is
 
 pub returns-in_default-clause-granted : goal.returns-in_default-clause-granted
 returns-in_default-clause-granted c =
-    let none : meaning_in c.args.self.now c.args.name ≡ None = ap (λ (n : NameTable). meaning_in n c.args.name) (sym c.self.view_is) ∙ sym (looked_up c.self.inside.names.entries c.args.name) ∙ sym c.get_mut.ensures.value ∙ ap option_copied_mut c.in_default.is in
+    let none : meaning_in c.args.self.now c.args.name ≡ None = ap (λ (n : NameTable). meaning_in n c.args.name) (sym c.self.view_is) ∙ sym (looked_up c.self.inside.names.entries c.args.name) ∙ c.place_in.ensures.none c.in_default.is in
     λ there fits.
     let no : false ≡ true = sym (ap is_some none) ∙ there in
     absurd cc
 
 pub returns-in_default-clause-there : goal.returns-in_default-clause-there
 returns-in_default-clause-there c =
-    let none : meaning_in c.args.self.now c.args.name ≡ None = ap (λ (n : NameTable). meaning_in n c.args.name) (sym c.self.view_is) ∙ sym (looked_up c.self.inside.names.entries c.args.name) ∙ sym c.get_mut.ensures.value ∙ ap option_copied_mut c.in_default.is in
+    let none : meaning_in c.args.self.now c.args.name ≡ None = ap (λ (n : NameTable). meaning_in n c.args.name) (sym c.self.view_is) ∙ sym (looked_up c.self.inside.names.entries c.args.name) ∙ c.place_in.ensures.none c.in_default.is in
     λ there.
     let no : false ≡ true = sym (ap is_some none) ∙ there in
     absurd cc
 
 pub overflow_sub-weight : goal.overflow_sub-weight
 overflow_sub-weight c =
-    let there = sym (ap option_copied_mut c.in-Some.is) ∙ c.get_mut.ensures.value in
+    let there = sym c.index.ensures ∙ c.in-Some.ensures.value in
     let within = (weighs c.self.inside.names.entries _ c.args.name _ c.self.inside.weight _ c.self.view_is c.self.invariant there c.weight.ensures).within in
     omega (arith, within, c.self.invariant.counted, ap table_weight c.self.view_is)
 
-pub invariant_of-self-then-weight-most : goal.invariant_of-self-then-weight-most
-invariant_of-self-then-weight-most c =
-    let there = sym (ap option_copied_mut c.in-Some.is) ∙ c.get_mut.ensures.value in
-    let among : is_some (found c.self.inside.names.entries c.args.name) ≡ true = ap is_some (sym there) in
-    let kept = kept_in_order c.self.inside.names.entries _ c.args.name _ ((c.get_mut.follows.holds c.in-Some.there.now).3 among).0 there in
-    subst (λ (n : NameTable). IsTable c.self.inside.weight n) (sym kept) c.self.invariant
-
-pub returns-then-weight-most-clause-err : goal.returns-then-weight-most-clause-err
-returns-then-weight-most-clause-err c =
-    let there = sym (ap option_copied_mut c.in-Some.is) ∙ c.get_mut.ensures.value in
-    let among : is_some (found c.self.inside.names.entries c.args.name) ≡ true = ap is_some (sym there) in
-    let kept = kept_in_order c.self.inside.names.entries _ c.args.name _ ((c.get_mut.follows.holds c.in-Some.there.now).3 among).0 there in
-    kept ∙ c.self.view_is
-
 pub returns-then-weight-most-clause-full : goal.returns-then-weight-most-clause-full
 returns-then-weight-most-clause-full c =
-    let there = sym (ap option_copied_mut c.in-Some.is) ∙ c.get_mut.ensures.value in
+    let there = sym c.index.ensures ∙ c.in-Some.ensures.value in
     (refl, (anew_is_reckoned c.self.inside.names.entries _ c.args.name _ c.args.meaning _ _ _ _ c.args.most c.self.view_is c.self.invariant c.requires.limit there c.weight.ensures c.weight-after.ensures refl).over c.if-weight-most.true)
 
 pub returns-then-weight-most-clause-granted : goal.returns-then-weight-most-clause-granted
 returns-then-weight-most-clause-granted c =
-    let there = sym (ap option_copied_mut c.in-Some.is) ∙ c.get_mut.ensures.value in
+    let there = sym c.index.ensures ∙ c.in-Some.ensures.value in
     λ is fits. never_over c.args.self.now c.args.name c.args.meaning _ c.args.most (anew_is_reckoned c.self.inside.names.entries _ c.args.name _ c.args.meaning _ _ _ _ c.args.most c.self.view_is c.self.invariant c.requires.limit there c.weight.ensures c.weight-after.ensures refl) c.if-weight-most.true fits
 
-pub invariant_of-self-2 : goal.invariant_of-self-2
-invariant_of-self-2 c =
-    let there = sym (ap option_copied_mut c.in-Some.is) ∙ c.get_mut.ensures.value in
-    let among : is_some (found c.self.inside.names.entries c.args.name) ≡ true = ap is_some (sym there) in
-    let written = put_in_order c.self.inside.names.entries _ c.args.name _ ((c.get_mut.follows.holds c.args.meaning).3 among).0 in
+pub invariant_of-self : goal.invariant_of-self
+invariant_of-self c =
+    let there = sym c.index.ensures ∙ c.in-Some.ensures.value in
+    let written = set_in_order c.self.inside.names.entries c.args.name c.in-Some.at c.args.meaning (sym c.in-Some.ensures.place) in
     is_table_with _ c.args.self.now _ c.args.name c.args.meaning _ _ c.args.most c.self.view_is c.self.invariant c.requires.whole (anew_is_reckoned c.self.inside.names.entries _ c.args.name _ c.args.meaning _ _ _ _ c.args.most c.self.view_is c.self.invariant c.requires.limit there c.weight.ensures c.weight-after.ensures refl) c.if-weight-most.false c.requires.limit written
 
 pub returns-clause-ok : goal.returns-clause-ok
 returns-clause-ok c =
-    let there = sym (ap option_copied_mut c.in-Some.is) ∙ c.get_mut.ensures.value in
-    let among : is_some (found c.self.inside.names.entries c.args.name) ≡ true = ap is_some (sym there) in
-    let written = put_in_order c.self.inside.names.entries _ c.args.name _ ((c.get_mut.follows.holds c.args.meaning).3 among).0 in
+    let written = set_in_order c.self.inside.names.entries c.args.name c.in-Some.at c.args.meaning (sym c.in-Some.ensures.place) in
     written ∙ ap (λ (n : NameTable). with_meaning n c.args.name c.args.meaning) c.self.view_is
 
 pub returns-clause-fits : goal.returns-clause-fits
 returns-clause-fits c =
-    let there = sym (ap option_copied_mut c.in-Some.is) ∙ c.get_mut.ensures.value in
+    let there = sym c.index.ensures ∙ c.in-Some.ensures.value in
     let same = (anew_is_reckoned c.self.inside.names.entries _ c.args.name _ c.args.meaning _ _ _ _ c.args.most c.self.view_is c.self.invariant c.requires.limit there c.weight.ensures c.weight-after.ensures refl).fits c.if-weight-most.false in
     omega (arith, same, c.if-weight-most.false)

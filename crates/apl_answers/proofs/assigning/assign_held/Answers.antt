@@ -23,6 +23,7 @@ use Rattle.apl_statements.specs.Interpreter.{PlainInterpreter, state_at}
 use Rattle.apl_statements.specs.Moves.{part_gives, part_takes}
 use Rattle.apl_statements.specs.Sound.{IsCaller}
 use Rattle.apl_statements.specs.Holding.{parts_of, stack_values}
+use Rattle.apl_statements.specs.Wants.{NoReportIsDue}
 use Rattle.apl_statements.proofs.Gives.{push_comes, with_values_sound}
 use Rattle.apl_statements.proofs.Held.{taken_one}
 use Rattle.apl_statements.proofs.Renewing.{settled_sound}
@@ -32,9 +33,9 @@ use Rattle.apl_statements.proofs.Wants.{want_exit}
 use Rattle.apl_answers.specs.WentOn.{went_on}
 use Rattle.apl_answers.proofs.Behind.{gets, goes_behind}
 use Rattle.apl_answers.proofs.Brings.{assigned_value, not_copied_ends}
-use Rattle.apl_answers.proofs.Wanting.{given_takes, not_copied_fits, not_copied_takes}
-use Rattle.apl_answers.proofs.assigning.assign_unshared.Goals as goal
-use Rattle.apl_answers.proofs.assigning.assign_unshared.Goals.{In_ok-assign_value, In_ok-held}
+use Rattle.apl_answers.proofs.Wanting.{assign_wants, given_takes, not_copied_fits, not_copied_takes, want_as}
+use Rattle.apl_answers.proofs.assigning.assign_held.Goals as goal
+use Rattle.apl_answers.proofs.assigning.assign_held.Goals.{In_ok-assign_value, In_ok-held}
 
 -- the right side, as the statement holds it
 abbrev own : In_ok-held → PlainArray
@@ -109,6 +110,38 @@ returns-in_err-push-clause-room c = λ value values are.
     let m : PlainInterpreter = c.args.interpreter.now in
     let is : c.in_ok-right.right ≡ value = c.in_ok-right.ensures.value ∙ newest (goal.at.returns-in_err-push-clause-room c).In_ok-held value values are in
     on_want c.from_residual-in_err-push.result _ (subst (λ (x : PlainArray). workspace_weight (assigned m.workspace c.args.name x) ≤ most_weight) is c.in_ok-assign_value.ensures.fits)
+
+-- ---- no report was due
+
+pub returns-in_err-right-clause-due : goal.returns-in_err-right-clause-due
+returns-in_err-right-clause-due c =
+    let m : PlainInterpreter = c.args.interpreter.now in
+    let right : PlainArray = own (goal.at.returns-in_err-right-clause-due c).In_ok-held in
+    let why : Fail = c.in_err-right.field-0.0 in
+    let exit = err_from_is_err_and c.from_residual-in_err-right.result c.from_residual-in_err-right.ensures.1 in
+    let is : exit.0 ≡ why = cc exit.2 in
+    want_exit c.from_residual-in_err-right.result exit.0 why (NoReportIsDue m (assign_step c.args.name (stack_values m.workspace c.args.e.now))) exit.1 is
+    (want_as PlainArray (Unit {0}) why (NoReportIsDue m (assign_step c.args.name (stack_values m.workspace c.args.e.now)))
+    (assign_wants {T = PlainArray} (Err why) m c.args.e.now c.take.new.self c.args.name c.in_ok-held.held right c.take.ensures.same c.in_ok-held.ensures.taken refl
+    (not_copied_takes PlainArray why (look m.workspace c.args.name) (assigned m.workspace c.args.name right) (is_shared_meaning (look m.workspace c.args.name)) refl c.in_err-right.ensures.other)
+    (λ apart. not_copied_fits PlainArray why (is_assignable (look m.workspace c.args.name)) (assigned m.workspace c.args.name right) (c.in_err-right.ensures.other apart))))
+
+pub returns-in_err-assign_value-clause-due : goal.returns-in_err-assign_value-clause-due
+returns-in_err-assign_value-clause-due c =
+    let m : PlainInterpreter = c.args.interpreter.now in
+    let why : Fail = c.in_err-assign_value.field-0.0 in
+    let exit = err_from_is_err_and c.from_residual-in_err-assign_value.result c.from_residual-in_err-assign_value.ensures.1 in
+    let is : exit.0 ≡ why = cc exit.2 in
+    want_exit c.from_residual-in_err-assign_value.result exit.0 why (NoReportIsDue m (assign_step c.args.name (stack_values m.workspace c.args.e.now))) exit.1 is
+    (assign_wants {T = Unit {0}} (Err why) m c.args.e.now c.take.new.self c.args.name c.in_ok-held.held c.in_ok-right.right c.take.ensures.same c.in_ok-held.ensures.taken c.in_ok-right.ensures.value c.in_err-assign_value.ensures.memory (λ apart. c.in_err-assign_value.ensures.room))
+
+pub returns-in_err-push-clause-due : goal.returns-in_err-push-clause-due
+returns-in_err-push-clause-due c =
+    let m : PlainInterpreter = c.args.interpreter.now in
+    let r = c.from_residual-in_err-push.result in
+    assign_wants r m c.args.e.now c.take.new.self c.args.name c.in_ok-held.held c.in_ok-right.right c.take.ensures.same c.in_ok-held.ensures.taken c.in_ok-right.ensures.value
+    (on_want r _ (given_takes m c.assign_value.new.interpreter c.args.name c.in_ok-right.right (look m.workspace c.args.name) refl c.in_ok-assign_value.ensures.done))
+    (λ apart. on_want r _ c.in_ok-assign_value.ensures.fits)
 
 -- the statement waits still, with settled values
 waits : (c : In_ok-assign_value) → IsCaller c.assign_value.new.interpreter.workspace c.assign_value.new.e
