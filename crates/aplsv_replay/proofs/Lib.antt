@@ -1,5 +1,6 @@
 pub mod AllTogether
 pub mod AuxiliaryTurns
+pub mod Behind
 pub mod Bound
 pub mod Devices
 pub mod Ends

@@ -17,7 +17,7 @@ use Rattle.session_rules.specs.Run.{Dealings, user_numbers}
 use Rattle.party_turns.specs.Participants.{users_of}
 use Rattle.aplsv_replay.specs.SeatTurns.{work_left}
 use Rattle.party_turns.specs.Seats.{none_lost}
-use Rattle.party_turns.specs.Serving.{IsAtWork}
+use Rattle.party_turns.specs.Serving.{ComesOn, IsAtWork}
 use Rattle.party_turns.specs.Sittings.{EndsIn, Sitting, lent_to, seats_in}
 use Rattle.party_turns.specs.SoFar.{IsSeated, IsWholeUnlessLost, user_of}
 use Rattle.replay_rules.specs.Turns.{Replay, auxiliary_turn, rounds}
@@ -105,3 +105,9 @@ module _ {X Y K : Type 0} (forgets_ten : X → ℕ → X → Type 0) (replies_te
     pub count : ℕ
     pub less : count + left_to_do after ≤ left_to_do before
     pub turns : TakesTurns (rounds count) before after
+
+-- what answers behind both auxiliaries goes on from wherever it had come, also where memory runs out for them
+pub record BothComeOn {X Y K : Type 0} (forgets_ten : X → ℕ → X → Type 0) (replies_ten : X → ℕ → PlainArray → PlainArray → X → Type 0) (wants_ten : X → ℕ → PlainArray → X → Type 0)
+    (forgets_twenty : Y → ℕ → Y → Type 0) (replies_twenty : Y → ℕ → PlainArray → PlainArray → Y → Type 0) (wants_twenty : Y → ℕ → PlainArray → Y → Type 0) (before after : Parties X Y K) : Type 0 where
+  pub ten : ComesOn forgets_ten replies_ten wants_ten before.ten after.ten
+  pub twenty : ComesOn forgets_twenty replies_twenty wants_twenty before.twenty after.twenty

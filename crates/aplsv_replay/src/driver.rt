@@ -1,6 +1,9 @@
 ghost use Rattle.std.specs.Prelude.{◌≡◌, ◌+◌, ◌≤◌, ◌++◌, length, map, vec_capacity, vec_len};
 ghost use Rattle.apl_arrays.specs.Ascending.{AscendBy};
 ghost use Rattle.apl_io.specs.Content.{KeepsPlaces};
+ghost use Rattle.auxiliaries.specs.Run.{CameTo};
+ghost use Rattle.party_turns.specs.GivenBack.{ClockCame, ComeBack, TextCame};
+ghost use Rattle.party_turns.specs.Serving.{CameBehind};
 ghost use Rattle.apl_session.specs.Ended.{IfWhole};
 ghost use Rattle.aplsv_replay.specs.Replayed.{IsDeviceRun, IsRunInTurns};
 ghost use Rattle.aplsv_replay.specs.Endings.{ComesOf, RunIsWhole};
@@ -30,6 +33,9 @@ pub fn replay<T: TextStore, C: Clock, K: Shelf>(
     ensures run { IfWhole result.ended (λ transcripts journal. IsDeviceRun C.told C.faults T.told T.faults K.told K.faults bundle journal transcripts devices.clock result.devices.clock devices.text result.devices.text
         devices.shelves.items result.devices.shelves.items) }
     ensures places { IfWhole result.ended (λ transcripts journal. KeepsPlaces (T.told devices.text) (T.told result.devices.text)) }
+    ensures clock { ClockCame C.told C.faults devices.clock result.devices.clock }
+    ensures text { TextCame T.told T.faults devices.text result.devices.text }
+    ensures shelves { ComeBack (length bundle.users) devices.shelves.items result.devices.shelves.items }
 {
     let Devices {
         text,
@@ -59,6 +65,7 @@ pub fn replay<T: TextStore, C: Clock, K: Shelf>(
 }
 
 /// Runs a bundle as `replay` does, with these two auxiliaries in the place of those over a clock and a text store.
+#[tactic(auto, using(party_turns::proofs::GivenBack::stays_here, party_turns::proofs::GivenBack::stay_back))]
 pub fn replay_with<X: Replier, Y: Replier, K: Shelf>(
     alloc: Global,
     bundle: Bundle,
@@ -67,7 +74,10 @@ pub fn replay_with<X: Replier, Y: Replier, K: Shelf>(
     shelves: Vec<K>,
 ) -> RunOf<X, Y, K>
     requires shelves { length bundle.users ≤ vec_len shelves }
-    ensures { IfWhole result.ended (λ transcripts journal. IsRunInTurns X.forgets X.replies Y.forgets Y.replies K.told K.faults bundle journal transcripts ten result.ten twenty result.twenty shelves.items result.shelves.items) }
+    ensures run { IfWhole result.ended (λ transcripts journal. IsRunInTurns X.forgets X.replies Y.forgets Y.replies K.told K.faults bundle journal transcripts ten result.ten twenty result.twenty shelves.items result.shelves.items) }
+    ensures ten { CameTo X.forgets X.replies X.wants ten result.ten }
+    ensures twenty { CameTo Y.forgets Y.replies Y.wants twenty result.twenty }
+    ensures shelves { ComeBack (length bundle.users) shelves.items result.shelves.items }
 {
     let Ok(core) = core_of(alloc, bundle.users()) else {
         return not_begun(ten, twenty, shelves);
@@ -101,7 +111,10 @@ fn go_through<X: Replier, Y: Replier, K: Shelf>(
 ) -> RunOf<X, Y, K>
     requires together { AreOfSomeBundle X.forgets X.replies Y.forgets Y.replies K.told K.faults parties }
     requires room { vec_len parties.seats + vec_len shelves ≤ vec_capacity shelves }
-    ensures { IfWhole result.ended (λ transcripts journal. ComesOf X.forgets X.replies Y.forgets Y.replies K.told K.faults order.now parties shelves.items transcripts journal result.ten result.twenty result.shelves.items) }
+    ensures run { IfWhole result.ended (λ transcripts journal. ComesOf X.forgets X.replies Y.forgets Y.replies K.told K.faults order.now parties shelves.items transcripts journal result.ten result.twenty result.shelves.items) }
+    ensures ten { (start : X) → CameBehind X.forgets X.replies X.wants start parties.ten → CameTo X.forgets X.replies X.wants start result.ten }
+    ensures twenty { (start : Y) → CameBehind Y.forgets Y.replies Y.wants start parties.twenty → CameTo Y.forgets Y.replies Y.wants start result.twenty }
+    ensures shelves { ComeBack (length parties.seats.items) (map (λ seat. seat.session.shelf) parties.seats.items ++ shelves.items) result.shelves.items }
 {
     let mut parties = parties;
     parties.take_turns(order);

@@ -7,7 +7,7 @@ ghost use Rattle.aplsv_replay.specs.SeatTurns.{AreSeatTurns, IsSeatTurn, has_tur
 ghost use Rattle.party_turns.specs.Seats.{seat_numbers};
 ghost use Rattle.party_turns.specs.SoFar.{AreSeated, IsOneSeated, IsSeated};
 ghost use Rattle.party_turns.specs.Sittings.{Sitting, seats_in};
-ghost use Rattle.aplsv_replay.specs.Together.{AreOfSomeBundle, TakesRounds, TakesTurns, TookAuxiliaryTurn, left_to_do, none_is_lost};
+ghost use Rattle.aplsv_replay.specs.Together.{AreOfSomeBundle, BothComeOn, TakesRounds, TakesTurns, TookAuxiliaryTurn, left_to_do, none_is_lost};
 ghost use Rattle.replay_rules.specs.Turns.{ordered, party_turn, round};
 
 use apl_io::Shelf;
@@ -30,7 +30,8 @@ impl<X: Replier, Y: Replier, K: Shelf> Parties<X, Y, K> {
     /// what the parties do; where that runs out for a party, the run is not whole.
     pub fn take_turns(&mut self, order: &[u32])
         requires together { AreOfSomeBundle X.forgets X.replies Y.forgets Y.replies K.told K.faults self.old }
-        ensures { TakesTurns X.forgets X.replies Y.forgets Y.replies K.told K.faults (ordered order.now) self.old self.new }
+        ensures turns { TakesTurns X.forgets X.replies Y.forgets Y.replies K.told K.faults (ordered order.now) self.old self.new }
+        ensures behind { BothComeOn X.forgets X.replies X.wants Y.forgets Y.replies Y.wants self.old self.new }
     {
         for party in order {
             self.take_next_turn(*party);
@@ -42,6 +43,7 @@ impl<X: Replier, Y: Replier, K: Shelf> Parties<X, Y, K> {
         requires together { AreOfSomeBundle X.forgets X.replies Y.forgets Y.replies K.told K.faults self.old }
         ensures rounds { TakesRounds X.forgets X.replies Y.forgets Y.replies K.told K.faults self.old self.new }
         ensures over { some_stay self.new.core.users self.new.core.journal ≡ false }
+        ensures behind { BothComeOn X.forgets X.replies X.wants Y.forgets Y.replies Y.wants self.old self.new }
     {
         'rounds: while !self.all_have_left() {
             self.take_round();
@@ -61,6 +63,7 @@ impl<X: Replier, Y: Replier, K: Shelf> Parties<X, Y, K> {
         requires stay { IsTrue (some_stay self.old.core.users self.old.core.journal) }
         ensures turns { TakesTurns X.forgets X.replies Y.forgets Y.replies K.told K.faults round self.old self.new }
         ensures less { left_to_do self.new < left_to_do self.old }
+        ensures behind { BothComeOn X.forgets X.replies X.wants Y.forgets Y.replies Y.wants self.old self.new }
     {
         self.turn_of(AuxiliaryKind::Clock);
         self.turn_of(AuxiliaryKind::TextFiles);
@@ -70,7 +73,8 @@ impl<X: Replier, Y: Replier, K: Shelf> Parties<X, Y, K> {
     // The turn of a party, unless all users have left.
     fn take_next_turn(&mut self, party: u32)
         requires together { AreOfSomeBundle X.forgets X.replies Y.forgets Y.replies K.told K.faults self.old }
-        ensures { TakesTurns X.forgets X.replies Y.forgets Y.replies K.told K.faults (ordered (party ∷ [])) self.old self.new }
+        ensures turns { TakesTurns X.forgets X.replies Y.forgets Y.replies K.told K.faults (ordered (party ∷ [])) self.old self.new }
+        ensures behind { BothComeOn X.forgets X.replies X.wants Y.forgets Y.replies Y.wants self.old self.new }
     {
         if self.all_have_left() {
             return;
@@ -82,7 +86,8 @@ impl<X: Replier, Y: Replier, K: Shelf> Parties<X, Y, K> {
     fn take_turn(&mut self, party: u32)
         requires together { AreOfSomeBundle X.forgets X.replies Y.forgets Y.replies K.told K.faults self.old }
         requires stay { IsTrue (some_stay self.old.core.users self.old.core.journal) }
-        ensures { TakesTurns X.forgets X.replies Y.forgets Y.replies K.told K.faults (party_turn party) self.old self.new }
+        ensures turns { TakesTurns X.forgets X.replies Y.forgets Y.replies K.told K.faults (party_turn party) self.old self.new }
+        ensures behind { BothComeOn X.forgets X.replies X.wants Y.forgets Y.replies Y.wants self.old self.new }
     {
         match auxiliary_at(party) {
             None => self.user_turns(Some(party)),
@@ -94,7 +99,8 @@ impl<X: Replier, Y: Replier, K: Shelf> Parties<X, Y, K> {
     fn turn_of(&mut self, kind: AuxiliaryKind)
         requires together { AreOfSomeBundle X.forgets X.replies Y.forgets Y.replies K.told K.faults self.old }
         requires stay { IsTrue (some_stay self.old.core.users self.old.core.journal) }
-        ensures { TookAuxiliaryTurn X.forgets X.replies Y.forgets Y.replies K.told K.faults kind self.old self.new }
+        ensures took { TookAuxiliaryTurn X.forgets X.replies Y.forgets Y.replies K.told K.faults kind self.old self.new }
+        ensures behind { BothComeOn X.forgets X.replies X.wants Y.forgets Y.replies Y.wants self.old self.new }
     {
         match kind {
             AuxiliaryKind::Clock => {

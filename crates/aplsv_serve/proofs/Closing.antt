@@ -145,9 +145,9 @@ module _ {K : Type 0} (told : K → Option (Told (ℕ × List ℕ))) (faults : K
 
 -- ---- auxiliaries
 
-module _ {S : Type 0} (forgets : S → ℕ → S → Type 0) (replies : S → ℕ → PlainArray → PlainArray → S → Type 0) (party : ℕ) (stile : Stile) (journal : Entries) where
+module _ {S : Type 0} (forgets : S → ℕ → S → Type 0) (replies : S → ℕ → PlainArray → PlainArray → S → Type 0) (wants : S → ℕ → PlainArray → S → Type 0) (party : ℕ) (stile : Stile) (journal : Entries) where
   -- an auxiliary for which memory did not run out has its part
-  pub part_of : (auxiliary : AuxiliaryTask S) → AuxiliaryStands forgets replies party stile auxiliary → HasAllOf journal auxiliary.seat → auxiliary.auxiliary.is_lost ≡ false
+  pub part_of : (auxiliary : AuxiliaryTask S) → AuxiliaryStands forgets replies wants party stile auxiliary → HasAllOf journal auxiliary.seat → auxiliary.auxiliary.is_lost ≡ false
       → IsAuxiliaryPart forgets replies (users_of_stile stile) party journal auxiliary.began.value auxiliary.auxiliary.replier
   part_of auxiliary stands all here =
       let known : IsKnown party (known_of auxiliary.seat) journal =
@@ -161,19 +161,19 @@ module _ {S : Type 0} (forgets : S → ℕ → S → Type 0) (replies : S → �
 
 -- ---- the run
 
-module _ {X Y K : Type 0} (forgets_ten : X → ℕ → X → Type 0) (replies_ten : X → ℕ → PlainArray → PlainArray → X → Type 0)
-    (forgets_twenty : Y → ℕ → Y → Type 0) (replies_twenty : Y → ℕ → PlainArray → PlainArray → Y → Type 0)
+module _ {X Y K : Type 0} (forgets_ten : X → ℕ → X → Type 0) (replies_ten : X → ℕ → PlainArray → PlainArray → X → Type 0) (wants_ten : X → ℕ → PlainArray → X → Type 0)
+    (forgets_twenty : Y → ℕ → Y → Type 0) (replies_twenty : Y → ℕ → PlainArray → PlainArray → Y → Type 0) (wants_twenty : Y → ℕ → PlainArray → Y → Type 0)
     (told : K → Option (Told (ℕ × List ℕ))) (faults : K → ℕ) (stile : Stile) (bundle : PlainBundle) (numbers : users_of_stile stile ≡ user_numbers bundle)
     (ten : X) (twenty : Y) (began : List (UserSeat K)) (users : map (λ (s : UserSeat K). user_of s.session) began ≡ bundle.users) (ascending : AscendBy (λ (u : PlainUser). u.number) bundle.users)
-    (list : List (PartyTask X Y K)) (back : IsRowBack ten twenty began list) (stand : AllByRecursion (StandsAt forgets_ten replies_ten forgets_twenty replies_twenty told faults stile) list)
+    (list : List (PartyTask X Y K)) (back : IsRowBack ten twenty began list) (stand : AllByRecursion (StandsAt forgets_ten replies_ten wants_ten forgets_twenty replies_twenty wants_twenty told faults stile) list)
     (apart : Apart X Y K) (is : AreApart back.row apart) (transcripts : List PlainTranscript) (journal : Entries) (ended : EndsWhole told faults (users_of_stile stile) apart transcripts journal) where
-  stand_row : AllByRecursion (StandsAt forgets_ten replies_ten forgets_twenty replies_twenty told faults stile) (variant.Clock back.row.clock ∷ variant.TextFiles back.row.files ∷ map (λ (u : UserTask K). variant.User u) back.row.users)
-  stand_row = subst (λ (l : List (PartyTask X Y K)). AllByRecursion (StandsAt forgets_ten replies_ten forgets_twenty replies_twenty told faults stile) l) back.row.is stand
+  stand_row : AllByRecursion (StandsAt forgets_ten replies_ten wants_ten forgets_twenty replies_twenty wants_twenty told faults stile) (variant.Clock back.row.clock ∷ variant.TextFiles back.row.files ∷ map (λ (u : UserTask K). variant.User u) back.row.users)
+  stand_row = subst (λ (l : List (PartyTask X Y K)). AllByRecursion (StandsAt forgets_ten replies_ten wants_ten forgets_twenty replies_twenty wants_twenty told faults stile) l) back.row.is stand
 
   seats_row : AllByRecursion (HasAllOf journal) (back.row.clock.seat ∷ back.row.files.seat ∷ map (λ (u : UserTask K). u.seat) back.row.users)
   seats_row = subst (λ (l : List (Seat PlainEntry)). AllByRecursion (HasAllOf journal) l) is.seats (recursion_from_All (HasAllOf journal) apart.seats.items ended.seats)
 
-  users_stand : (rest : List (UserTask K)) → AllByRecursion (StandsAt forgets_ten replies_ten forgets_twenty replies_twenty told faults stile) (map (λ (u : UserTask K). let t : PartyTask X Y K = variant.User u in t) rest) → AllByRecursion (UserStands told faults stile) rest
+  users_stand : (rest : List (UserTask K)) → AllByRecursion (StandsAt forgets_ten replies_ten wants_ten forgets_twenty replies_twenty wants_twenty told faults stile) (map (λ (u : UserTask K). let t : PartyTask X Y K = variant.User u in t) rest) → AllByRecursion (UserStands told faults stile) rest
   users_stand [] h = tt
   users_stand (u ∷ rest) h = (h.0, users_stand rest h.1)
 
@@ -220,11 +220,11 @@ module _ {X Y K : Type 0} (forgets_ten : X → ℕ → X → Type 0) (replies_te
   parts kind.Clock =
       subst₂ (λ (start : X) (end : X). IsAuxiliaryPart forgets_ten replies_ten (user_numbers bundle) (party_of kind.Clock) journal start end) back.clock (ap (λ (a : Auxiliary X). a.replier) (sym is.ten))
       (subst (λ (l : List ℕ). IsAuxiliaryPart forgets_ten replies_ten l (party_of kind.Clock) journal back.row.clock.began.value back.row.clock.auxiliary.replier) numbers
-      (part_of forgets_ten replies_ten (party_of kind.Clock) stile journal back.row.clock stand_row.0 seats_row.0 (ap (λ (a : Auxiliary X). a.is_lost) (sym is.ten) ∙ ended.ten_here)))
+      (part_of forgets_ten replies_ten wants_ten (party_of kind.Clock) stile journal back.row.clock stand_row.0 seats_row.0 (ap (λ (a : Auxiliary X). a.is_lost) (sym is.ten) ∙ ended.ten_here)))
   parts kind.TextFiles =
       subst₂ (λ (start : Y) (end : Y). IsAuxiliaryPart forgets_twenty replies_twenty (user_numbers bundle) (party_of kind.TextFiles) journal start end) back.files (ap (λ (a : Auxiliary Y). a.replier) (sym is.twenty))
       (subst (λ (l : List ℕ). IsAuxiliaryPart forgets_twenty replies_twenty l (party_of kind.TextFiles) journal back.row.files.began.value back.row.files.auxiliary.replier) numbers
-      (part_of forgets_twenty replies_twenty (party_of kind.TextFiles) stile journal back.row.files stand_row.1.0 seats_row.1.0 (ap (λ (a : Auxiliary Y). a.is_lost) (sym is.twenty) ∙ ended.twenty_here)))
+      (part_of forgets_twenty replies_twenty wants_twenty (party_of kind.TextFiles) stile journal back.row.files stand_row.1.0 seats_row.1.0 (ap (λ (a : Auxiliary Y). a.is_lost) (sym is.twenty) ∙ ended.twenty_here)))
 
   users_parts : AreUserParts (dealings_of come.sittings) journal bundle.users transcripts
   users_parts =

@@ -15,11 +15,12 @@ use Rattle.sv_rules.specs.Entries.{Entries, has_left}
 use Rattle.sv_rules.specs.Legal.{is_user}
 use Rattle.sv_turn.specs.Journals.{places_of}
 use Rattle.sv_turn.specs.declared.seat.Seat.{Seat}
-use Rattle.party_turns.specs.Serving.{IsAtWork}
+use Rattle.party_turns.specs.Serving.{CameBehind, IsAtWork}
 use Rattle.party_turns.specs.Sittings.{newly}
 use Rattle.party_turns.specs.SoFar.{IsSameUser, IsSeated}
 use Rattle.party_turns.specs.declared.auxiliary.Auxiliary.{Auxiliary}
 use Rattle.party_turns.specs.declared.seat.UserSeat.{UserSeat}
+use Rattle.party_turns.proofs.GivenBack.{newly_behind}
 use Rattle.aplsv_serve.specs.Halls.{IsFreshSeat, IsHall, IsSeatAtStile, Stile, users_of_stile}
 use Rattle.aplsv_serve.specs.Starts.{AreNewTasks, IsNewService, IsNewUser}
 use Rattle.aplsv_serve.specs.Tasks.{AuxiliaryStands, PartyStands, StandsAt}
@@ -41,9 +42,9 @@ fresh_seat stile party seat fresh own = record {
 -- ---- auxiliaries
 
 -- an auxiliary that has taken no turn is at its work
-new_service : {S : Type 0} (forgets : S → ℕ → S → Type 0) (replies : S → ℕ → PlainArray → PlainArray → S → Type 0) (party : ℕ) (stile : Stile) (start : S) (task : AuxiliaryTask S) → IsNewService party start task → IsFreshSeat stile task.seat → task.seat.party ≡ party
-    → AuxiliaryStands forgets replies party stile task
-new_service {S = S} forgets replies party stile start task new fresh own = record {
+new_service : {S : Type 0} (forgets : S → ℕ → S → Type 0) (replies : S → ℕ → PlainArray → PlainArray → S → Type 0) (wants : S → ℕ → PlainArray → S → Type 0) (party : ℕ) (stile : Stile) (start : S) (task : AuxiliaryTask S) → IsNewService party start task → IsFreshSeat stile task.seat → task.seat.party ≡ party
+    → AuxiliaryStands forgets replies wants party stile task
+new_service {S = S} forgets replies wants party stile start task new fresh own = record {
   seat = fresh_seat stile party task.seat fresh own;
   room = λ going. fresh.room;
   at_work = subst₂ (λ (began : S) (j : Entries). IsAtWork forgets replies (users_of_stile stile) party began j task.auxiliary) (sym new.began) (sym fresh.nothing_known)
@@ -52,6 +53,7 @@ new_service {S = S} forgets replies party stile start task new fresh own = recor
         answered = λ here. ap (λ (a : Auxiliary S). a.replier) new.auxiliary;
         among = refl;
       });
+  came = subst₂ (λ (began : S) (a : Auxiliary S). CameBehind forgets replies wants began a) (sym new.began) (sym new.auxiliary) (newly_behind forgets replies wants party start);
 }
 
 -- ---- users
@@ -93,24 +95,24 @@ all_among (number ∷ numbers) = (is_among number numbers, more_among number num
 
 -- ---- all
 
-module _ {X Y K G : Type 0} (forgets_ten : X → ℕ → X → Type 0) (replies_ten : X → ℕ → PlainArray → PlainArray → X → Type 0)
-    (forgets_twenty : Y → ℕ → Y → Type 0) (replies_twenty : Y → ℕ → PlainArray → PlainArray → Y → Type 0)
+module _ {X Y K G : Type 0} (forgets_ten : X → ℕ → X → Type 0) (replies_ten : X → ℕ → PlainArray → PlainArray → X → Type 0) (wants_ten : X → ℕ → PlainArray → X → Type 0)
+    (forgets_twenty : Y → ℕ → Y → Type 0) (replies_twenty : Y → ℕ → PlainArray → PlainArray → Y → Type 0) (wants_twenty : Y → ℕ → PlainArray → Y → Type 0)
     (told : K → Option (Told (ℕ × List ℕ))) (faults : K → ℕ) (hall : Hall G) (is : IsHall hall) where
   -- in a hall
-  in_hall : (tasks : List (PartyTask X Y K)) → AllByRecursion (StandsAt forgets_ten replies_ten forgets_twenty replies_twenty told faults hall.stile) tasks
-      → AllByRecursion (PartyStands forgets_ten replies_ten forgets_twenty replies_twenty told faults hall) tasks
+  in_hall : (tasks : List (PartyTask X Y K)) → AllByRecursion (StandsAt forgets_ten replies_ten wants_ten forgets_twenty replies_twenty wants_twenty told faults hall.stile) tasks
+      → AllByRecursion (PartyStands forgets_ten replies_ten wants_ten forgets_twenty replies_twenty wants_twenty told faults hall) tasks
   in_hall [] h = tt
   in_hall (t ∷ tasks) h = (record { hall_is = is; stands = h.0 }, in_hall tasks h.1)
 
   of_users : (users : List (UserTask K)) → AllByRecursion (UserStands told faults hall.stile) users
-      → AllByRecursion (StandsAt forgets_ten replies_ten forgets_twenty replies_twenty told faults hall.stile) (map (λ (u : UserTask K). let t : PartyTask X Y K = variant.User u in t) users)
+      → AllByRecursion (StandsAt forgets_ten replies_ten wants_ten forgets_twenty replies_twenty wants_twenty told faults hall.stile) (map (λ (u : UserTask K). let t : PartyTask X Y K = variant.User u in t) users)
   of_users [] h = tt
   of_users (u ∷ users) h = (h.0, of_users users h.1)
 
   -- the tasks of a run stand before their first turn
   pub all_stand : (ten : X) (twenty : Y) (users : List (UserSeat K)) (seats : List (Seat PlainEntry)) (tasks : List (PartyTask X Y K)) → AreNewTasks ten twenty users seats tasks → All (IsFreshSeat hall.stile) seats
       → map (λ (s : Seat PlainEntry). s.party) seats ≡ clock_party ∷ text_party ∷ map (λ (s : UserSeat K). s.session.user) users → users_of_stile hall.stile ≡ map (λ (s : UserSeat K). s.session.user) users
-      → All (λ (s : UserSeat K). IsSeated told faults [] (newly s)) users → All (PartyStands forgets_ten replies_ten forgets_twenty replies_twenty told faults hall) tasks
+      → All (λ (s : UserSeat K). IsSeated told faults [] (newly s)) users → All (PartyStands forgets_ten replies_ten wants_ten forgets_twenty replies_twenty wants_twenty told faults hall) tasks
   all_stand ten twenty users seats tasks new fresh parties numbers seated =
       let row = new.row in
       let at : AllByRecursion (IsFreshSeat hall.stile) (row.clock.seat ∷ row.files.seat ∷ map (λ (t : UserTask K). t.seat) row.users) =
@@ -130,7 +132,7 @@ module _ {X Y K G : Type 0} (forgets_ten : X → ℕ → X → Type 0) (replies_
       let stand : AllByRecursion (UserStands told faults hall.stile) row.users =
       new_users told faults hall.stile row.users (recursion_from_All IsNewUser row.users new.each) at.1.1 own
       (subst (λ (list : List (UserSeat K)). AllByRecursion (λ (s : UserSeat K). IsSeated told faults [] (newly s)) list) (sym new.seated) (recursion_from_All (λ (s : UserSeat K). IsSeated told faults [] (newly s)) users seated)) among in
-      subst (λ (list : List (PartyTask X Y K)). All (PartyStands forgets_ten replies_ten forgets_twenty replies_twenty told faults hall) list) (sym row.is)
-      (All-from_recursion (PartyStands forgets_ten replies_ten forgets_twenty replies_twenty told faults hall) (variant.Clock row.clock ∷ variant.TextFiles row.files ∷ map (λ (u : UserTask K). variant.User u) row.users)
+      subst (λ (list : List (PartyTask X Y K)). All (PartyStands forgets_ten replies_ten wants_ten forgets_twenty replies_twenty wants_twenty told faults hall) list) (sym row.is)
+      (All-from_recursion (PartyStands forgets_ten replies_ten wants_ten forgets_twenty replies_twenty wants_twenty told faults hall) (variant.Clock row.clock ∷ variant.TextFiles row.files ∷ map (λ (u : UserTask K). variant.User u) row.users)
       (in_hall (variant.Clock row.clock ∷ variant.TextFiles row.files ∷ map (λ (u : UserTask K). variant.User u) row.users)
-      (new_service forgets_ten replies_ten (party_of kind.Clock) hall.stile ten row.clock new.clock at.0 first, (new_service forgets_twenty replies_twenty (party_of kind.TextFiles) hall.stile twenty row.files new.files at.1.0 second, of_users row.users stand))))
+      (new_service forgets_ten replies_ten wants_ten (party_of kind.Clock) hall.stile ten row.clock new.clock at.0 first, (new_service forgets_twenty replies_twenty wants_twenty (party_of kind.TextFiles) hall.stile twenty row.files new.files at.1.0 second, of_users row.users stand))))

@@ -1,16 +1,18 @@
 -- The tasks of a run that are back: their seats close the turnstile, and their users are those that began.
-use Rattle.std.proofs.Common.{◌≡◌, ℕ, ◌+◌, ◌∷◌, List, [], map, length, Option, refl, sym, ap, ap₂, ◌∙◌, subst, arith}
+use Rattle.std.proofs.Common.{◌≡◌, ℕ, ◌+◌, ◌∷◌, List, [], map, length, Option, refl, sym, ap, ap₂, ◌∙◌, subst, subst₂, arith}
 use Rattle.std.specs.List.{AllByRecursion}
 use Rattle.std.specs.Prelude.{All}
 use Rattle.std.proofs.lemmas.List.{length-map}
 use Rattle.std.proofs.lemmas.List.Elements.{All-cons, All-nil, recursion_from_All}
 use Rattle.apl_arrays.specs.Array.{PlainArray}
 use Rattle.apl_io.specs.Content.{Told}
+use Rattle.auxiliaries.specs.Run.{CameTo}
 use Rattle.sv_core.specs.Histories.{members_of}
 use Rattle.sv_events.specs.Entry.{PlainEntry}
 use Rattle.sv_turn.specs.Seating.{BelongsTo}
 use Rattle.sv_turn.specs.declared.seat.Seat.{Seat}
 use Rattle.apl_session.specs.PlainSession.{PlainSession}
+use Rattle.party_turns.specs.declared.auxiliary.Auxiliary.{Auxiliary}
 use Rattle.party_turns.specs.declared.seat.UserSeat.{UserSeat}
 use Rattle.aplsv_serve.specs.Starts.{AreApart, AreNewTasks, IsNewUser}
 use Rattle.aplsv_serve.specs.Tasks.{PartyStands, StandsAt, TaskRow, party_name}
@@ -60,20 +62,20 @@ row_returned {X = X} {Y = Y} {K = K} ten twenty users seats tasks list new same 
 
 -- ---- and the tasks that are back
 
-module _ {X Y K G : Type 0} (forgets_ten : X → ℕ → X → Type 0) (replies_ten : X → ℕ → PlainArray → PlainArray → X → Type 0)
-    (forgets_twenty : Y → ℕ → Y → Type 0) (replies_twenty : Y → ℕ → PlainArray → PlainArray → Y → Type 0)
+module _ {X Y K G : Type 0} (forgets_ten : X → ℕ → X → Type 0) (replies_ten : X → ℕ → PlainArray → PlainArray → X → Type 0) (wants_ten : X → ℕ → PlainArray → X → Type 0)
+    (forgets_twenty : Y → ℕ → Y → Type 0) (replies_twenty : Y → ℕ → PlainArray → PlainArray → Y → Type 0) (wants_twenty : Y → ℕ → PlainArray → Y → Type 0)
     (told : K → Option (Told (ℕ × List ℕ))) (faults : K → ℕ) (hall : Hall G) where
   abbrev Stands : PartyTask X Y K → Type 0
-  Stands = StandsAt forgets_ten replies_ten forgets_twenty replies_twenty told faults hall.stile
+  Stands = StandsAt forgets_ten replies_ten wants_ten forgets_twenty replies_twenty wants_twenty told faults hall.stile
 
   -- they stand at the turnstile of their hall
-  of_hall : (list : List (PartyTask X Y K)) → AllByRecursion (PartyStands forgets_ten replies_ten forgets_twenty replies_twenty told faults hall) list → AllByRecursion Stands list
+  of_hall : (list : List (PartyTask X Y K)) → AllByRecursion (PartyStands forgets_ten replies_ten wants_ten forgets_twenty replies_twenty wants_twenty told faults hall) list → AllByRecursion Stands list
   of_hall [] h = tt
   of_hall (t ∷ list) h =
-      ((head_of (PartyStands forgets_ten replies_ten forgets_twenty replies_twenty told faults hall) t list h).stands, of_hall list (rest_of (PartyStands forgets_ten replies_ten forgets_twenty replies_twenty told faults hall) t list h))
+      ((head_of (PartyStands forgets_ten replies_ten wants_ten forgets_twenty replies_twenty wants_twenty told faults hall) t list h).stands, of_hall list (rest_of (PartyStands forgets_ten replies_ten wants_ten forgets_twenty replies_twenty wants_twenty told faults hall) t list h))
 
-  pub stand_in_hall : (list : List (PartyTask X Y K)) → All (PartyStands forgets_ten replies_ten forgets_twenty replies_twenty told faults hall) list → AllByRecursion Stands list
-  stand_in_hall list h = of_hall list (recursion_from_All (PartyStands forgets_ten replies_ten forgets_twenty replies_twenty told faults hall) list h)
+  pub stand_in_hall : (list : List (PartyTask X Y K)) → All (PartyStands forgets_ten replies_ten wants_ten forgets_twenty replies_twenty wants_twenty told faults hall) list → AllByRecursion Stands list
+  stand_in_hall list h = of_hall list (recursion_from_All (PartyStands forgets_ten replies_ten wants_ten forgets_twenty replies_twenty wants_twenty told faults hall) list h)
 
   users_belong : (users : List (UserTask K)) → AllByRecursion Stands (map (λ (u : UserTask K). let t : PartyTask X Y K = variant.User u in t) users) → All (BelongsTo members_of hall.stile) (map (λ (u : UserTask K). u.seat) users)
   users_belong [] h = All-nil (BelongsTo members_of hall.stile)
@@ -110,6 +112,18 @@ module _ {X Y K G : Type 0} (forgets_ten : X → ℕ → X → Type 0) (replies_
       let all = subst (λ (l : List (PartyTask X Y K)). AllByRecursion Stands l) back.row.is stand in
       let users = rest_of Stands (variant.TextFiles back.row.files) rest (rest_of Stands (variant.Clock back.row.clock) (variant.TextFiles back.row.files ∷ rest) all) in
       ap (λ (l : List (UserSeat K)). map (λ (s : UserSeat K). s.session.user) l) is.users ∙ (same_numbers back.row.users users ∙ ap (λ (l : List (UserSeat K)). map (λ (s : UserSeat K). s.session.user) l) back.users)
+
+  -- what answers behind their auxiliaries came to where it is
+  pub both_came : (ten : X) (twenty : Y) (began : List (UserSeat K)) (list : List (PartyTask X Y K)) (back : IsRowBack ten twenty began list) (apart : Apart X Y K) → AreApart back.row apart → AllByRecursion Stands list
+      → CameTo forgets_ten replies_ten wants_ten ten apart.ten.replier × CameTo forgets_twenty replies_twenty wants_twenty twenty apart.twenty.replier
+  both_came ten twenty began list back apart is stand =
+      let rest : List (PartyTask X Y K) = map (λ (o : UserTask K). let t : PartyTask X Y K = variant.User o in t) back.row.users in
+      let all = subst (λ (l : List (PartyTask X Y K)). AllByRecursion Stands l) back.row.is stand in
+      let clock = head_of Stands (variant.Clock back.row.clock) (variant.TextFiles back.row.files ∷ rest) all in
+      let files = head_of Stands (variant.TextFiles back.row.files) rest (rest_of Stands (variant.Clock back.row.clock) (variant.TextFiles back.row.files ∷ rest) all) in (
+        subst₂ (λ (start end : X). CameTo forgets_ten replies_ten wants_ten start end) back.clock (ap (λ (a : Auxiliary X). a.replier) (sym is.ten)) clock.came.came,
+        subst₂ (λ (start end : Y). CameTo forgets_twenty replies_twenty wants_twenty start end) back.files (ap (λ (a : Auxiliary Y). a.replier) (sym is.twenty)) files.came.came,
+      )
 
 -- they are as many as began
 pub as_many_tasks : {X Y K : Type 0} (ten : X) (twenty : Y) (began : List (UserSeat K)) (list : List (PartyTask X Y K)) → IsRowBack ten twenty began list → length list ≡ length began + 2

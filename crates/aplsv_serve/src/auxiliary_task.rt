@@ -2,7 +2,7 @@
 ghost use Rattle.std.specs.Prelude.{◌≡◌, ℕ, ◌+◌, ◌≤◌, false, true, IsTrue};
 ghost use Rattle.aux_parties.specs.Auxiliaries.{is_auxiliary};
 ghost use Rattle.sv_turn.specs.Seating.{known_of, spare_of};
-ghost use Rattle.party_turns.specs.Serving.{IsAtWork};
+ghost use Rattle.party_turns.specs.Serving.{ComesOn, IsAtWork};
 ghost use Rattle.aplsv_serve.specs.Halls.{IsHall, IsSeatAtStile, users_of_stile};
 ghost use Rattle.aplsv_serve.specs.Tasks.{AuxiliaryStands};
 
@@ -52,8 +52,8 @@ impl<X: Replier> AuxiliaryTask<X> {
         bell: &Bell,
     ) -> Progress
         requires hall { IsHall hall.now }
-        requires stands { (party : ℕ) × IsTrue (is_auxiliary party) × AuxiliaryStands X.forgets X.replies party hall.now.stile self.old }
-        ensures stands { (party : ℕ) → IsTrue (is_auxiliary party) → AuxiliaryStands X.forgets X.replies party hall.now.stile self.old → AuxiliaryStands X.forgets X.replies party hall.now.stile self.new }
+        requires stands { (party : ℕ) × IsTrue (is_auxiliary party) × AuxiliaryStands X.forgets X.replies X.wants party hall.now.stile self.old }
+        ensures stands { (party : ℕ) → IsTrue (is_auxiliary party) → AuxiliaryStands X.forgets X.replies X.wants party hall.now.stile self.old → AuxiliaryStands X.forgets X.replies X.wants party hall.now.stile self.new }
         ensures began { self.new.began ≡ self.old.began }
     {
         if self.is_done {
@@ -80,6 +80,7 @@ impl<X: Replier> AuxiliaryTask<X> {
         ensures room { spare_of self.old.seat ≤ spare_of self.new.seat + 1 }
         ensures at_work { (start : X) → IsAtWork X.forgets X.replies (users_of_stile hall.now.stile) self.old.auxiliary.party start (known_of self.old.seat) self.old.auxiliary
             → IsAtWork X.forgets X.replies (users_of_stile hall.now.stile) self.old.auxiliary.party start (known_of self.new.seat) self.new.auxiliary }
+        ensures comes { ComesOn X.forgets X.replies X.wants self.old.auxiliary self.new.auxiliary }
     {
         let mut turn = hall.stile.enter(rt, &mut self.seat);
         let service = give_service(&mut self.auxiliary, turn.state(), &hall.users);

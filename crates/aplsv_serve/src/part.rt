@@ -9,6 +9,7 @@ ghost use Rattle.session_rules.specs.Auxiliaries.{some_stay};
 ghost use Rattle.session_rules.specs.Shelf.{Exchange};
 ghost use Rattle.apl_session.specs.declared.session.SessionStage.TheVariants as stage;
 ghost use Rattle.party_turns.specs.Entering.{Brings, IsOneIf, IsReady};
+ghost use Rattle.party_turns.specs.Serving.{ComesOn};
 ghost use Rattle.party_turns.specs.SoFar.{HasAnswered};
 
 use crate::boxed_core::BoxedCore;
@@ -105,6 +106,7 @@ pub fn give_service<X: Replier>(
     ensures rested { result ≢ Service.Made → core.new ≡ core.old }
     ensures answered { auxiliary.new.is_lost ≡ false → (start : X) → HasAnswered X.forgets X.replies start core.old.journal auxiliary.old → HasAnswered X.forgets X.replies start core.new.journal auxiliary.new }
     ensures lost { auxiliary.old.is_lost ≡ true → auxiliary.new.is_lost ≡ true }
+    ensures comes { ComesOn X.forgets X.replies X.wants auxiliary.old auxiliary.new }
 {
     if !some_user_stays(&core.core, users) {
         return Service::Over;

@@ -31,7 +31,7 @@ impl<'a, X: Replier, Y: Replier, K: Shelf, G: Gate> Task<Hall<'a, G>> for PartyT
 
     ghost name = { party_name };
 
-    ghost stands = { PartyStands X.forgets X.replies Y.forgets Y.replies K.told K.faults };
+    ghost stands = { PartyStands X.forgets X.replies X.wants Y.forgets Y.replies Y.wants K.told K.faults };
 
     fn take_turn<R: Wait>(&mut self, rt: &R, hall: &Hall<'a, G>, bell: &Bell) -> Progress {
         match self {

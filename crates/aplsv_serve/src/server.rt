@@ -2,6 +2,8 @@ ghost use Rattle.std.specs.Prelude.{◌≡◌, ◌+◌, ◌≤◌, ◌++◌, ◌
 ghost use Rattle.apl_io.specs.Content.{KeepsPlaces};
 ghost use Rattle.apl_session.specs.Ended.{IfWhole};
 ghost use Rattle.apl_arrays.specs.Ascending.{AscendBy};
+ghost use Rattle.auxiliaries.specs.Run.{CameTo};
+ghost use Rattle.party_turns.specs.GivenBack.{ClockCame, ComeBack, TextCame};
 ghost use Rattle.party_turns.specs.Seats.{none_lost, seat_numbers};
 ghost use Rattle.session_rules.specs.Auxiliaries.{some_stay};
 ghost use Rattle.sv_core.specs.Histories.{members_of};
@@ -33,8 +35,10 @@ use task_workers::{Bell, work_all};
 /// its tasks in turn one act. A party passes the gate each time before it takes its turn. The k-th user takes the k-th shelf.
 /// No thread is started that would have no task, and one that can't be started leaves its tasks to the caller's. It takes the
 /// memory of the run. Where the run is whole it is a run over these devices, which come back as it left them, the shelves in
-/// their order. Of a run that ends as `WantOfMemory` no clause says more; it is tried that there all users leave, and that the
-/// shelves come back in their order too. It may wait for ever.
+/// their order. However it ends, the clock and the text store come back where their answers led them, behind which memory may
+/// have run out over one more; and as many shelves come back as were given, those behind the users' as they were. Of a run that
+/// ends as `WantOfMemory` no clause says more; it is tried that there all users leave, and that the users' shelves come back in
+/// their order too. It may wait for ever.
 pub fn serve<
     R: Threads + Wait + Sync,
     T: TextStore + Send + Drop,
@@ -54,6 +58,9 @@ pub fn serve<
     ensures run { IfWhole result.ended (λ transcripts journal. IsRunOverDevices C.told C.faults T.told T.faults K.told K.faults bundle journal transcripts devices.clock result.devices.clock devices.text result.devices.text
         devices.shelves.items result.devices.shelves.items) }
     ensures places { IfWhole result.ended (λ transcripts journal. KeepsPlaces (T.told devices.text) (T.told result.devices.text)) }
+    ensures clock { ClockCame C.told C.faults devices.clock result.devices.clock }
+    ensures text { TextCame T.told T.faults devices.text result.devices.text }
+    ensures shelves { ComeBack (length bundle.users) devices.shelves.items result.devices.shelves.items }
 {
     let Devices {
         text,
@@ -86,6 +93,7 @@ pub fn serve<
 }
 
 /// Runs a bundle as `serve` does, with these two auxiliaries in the place of those over a clock and a text store.
+#[tactic(auto, using(party_turns::proofs::GivenBack::stays_here, party_turns::proofs::GivenBack::stay_back))]
 pub fn serve_with<
     R: Threads + Wait + Sync,
     X: Replier + Send + Drop,
@@ -104,7 +112,10 @@ pub fn serve_with<
 ) -> RunOf<X, Y, K>
     requires shelves { length bundle.users ≤ vec_len shelves }
     requires workers { (1 ≤ workers) × (workers ≤ 34) }
-    ensures { IfWhole result.ended (λ transcripts journal. IsSomeRun X.forgets X.replies Y.forgets Y.replies K.told K.faults bundle journal transcripts ten result.ten twenty result.twenty shelves.items result.shelves.items) }
+    ensures run { IfWhole result.ended (λ transcripts journal. IsSomeRun X.forgets X.replies Y.forgets Y.replies K.told K.faults bundle journal transcripts ten result.ten twenty result.twenty shelves.items result.shelves.items) }
+    ensures ten { CameTo X.forgets X.replies X.wants ten result.ten }
+    ensures twenty { CameTo Y.forgets Y.replies Y.wants twenty result.twenty }
+    ensures shelves { ComeBack (length bundle.users) shelves.items result.shelves.items }
 {
     let Ok(start) = begin(alloc, bundle.users()) else {
         return not_begun(ten, twenty, shelves);
@@ -147,9 +158,9 @@ fn serve_all<
     tasks: Vec<PartyTask<X, Y, K>>,
     workers: u32,
 ) -> Vec<PartyTask<X, Y, K>>
-    requires stand { All (PartyStands X.forgets X.replies Y.forgets Y.replies K.told K.faults hall.now) tasks.items }
+    requires stand { All (PartyStands X.forgets X.replies X.wants Y.forgets Y.replies Y.wants K.told K.faults hall.now) tasks.items }
     requires workers { 1 ≤ workers }
-    ensures stand { All (PartyStands X.forgets X.replies Y.forgets Y.replies K.told K.faults hall.now) result.items }
+    ensures stand { All (PartyStands X.forgets X.replies X.wants Y.forgets Y.replies Y.wants K.told K.faults hall.now) result.items }
     ensures names { map party_name result.items ≡ map party_name tasks.items }
 {
     let bell = Bell::new();

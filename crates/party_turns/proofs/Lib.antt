@@ -1,6 +1,7 @@
 pub mod Ascents
 pub mod Beginning
 pub mod Filling
+pub mod GivenBack
 pub mod Growth
 pub mod Hearing
 pub mod Leaving

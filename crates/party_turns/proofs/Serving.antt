@@ -1,10 +1,10 @@
 -- The turns of auxiliaries.
-use Rattle.std.proofs.Common.{◌≡◌, ℕ, ◌+◌, Bool, false, true, List, [], ◌∷◌, IsTrue, Option, Some, None, Result, Ok, Err, OnOk, length, refl, sym, ap, subst, ◌∙◌, arith}
+use Rattle.std.proofs.Common.{◌≡◌, ℕ, ◌+◌, inl, inr, Bool, false, true, List, [], ◌∷◌, IsTrue, Option, Some, None, Result, Ok, Err, OnOk, length, refl, sym, ap, subst, ◌∙◌, arith}
 use Rattle.std.proofs.lemmas.List.Elements.{All-cons, All-nil}
 use Rattle.std.proofs.lemmas.Option.{same_Some}
 use Rattle.std.specs.Prelude.{IfOk}
 use Rattle.apl_arrays.specs.Array.{PlainArray}
-use Rattle.auxiliaries.specs.Run.{Event, IsReplierRun}
+use Rattle.auxiliaries.specs.Run.{Event, began, answered, IsReplierRun}
 use Rattle.sv_core.specs.Core.{PlainCore}
 use Rattle.sv_core.specs.Due.{request_due, customer_of, is_reply, is_service}
 use Rattle.sv_events.specs.Entry.{PlainEntry}
@@ -25,7 +25,7 @@ use Rattle.replay_rules.specs.Turns.{served}
 use Rattle.replay_rules.proofs.Serving.{controls_begin, entered, others_tell_nothing, replies_answer, room_for_work, served_idle, served_reply, served_work}
 use Rattle.replay_rules.proofs.Stepping.{MayStep, work_may_step}
 use Rattle.party_turns.specs.Entering.{IsOneIf, IsOneMore}
-use Rattle.party_turns.specs.Serving.{MakesWork, TookTurn}
+use Rattle.party_turns.specs.Serving.{ComesOn, EndsOn, MakesWork, RunsOn, TookTurn}
 use Rattle.party_turns.specs.SoFar.{GrowsBy, HasAnswered, IsIdleIf}
 use Rattle.party_turns.specs.declared.auxiliary.Auxiliary.{Auxiliary}
 
@@ -174,3 +174,37 @@ module _ {X : Type 0} (forgets : X → ℕ → X → Type 0) (replies : X → �
         };
         idle = work_is_not_idle old.party (Some reply) before after made;
       }
+
+-- ---- what answers behind an auxiliary
+
+-- what holds anyhow holds after a success
+pub so_anyhow : {T E : Type 0} (P : Type 0) (got : Result T E) → P → OnOk got P
+so_anyhow P (Ok x) is = is
+so_anyhow P (Err e) is = tt
+
+module _ {S : Type 0} (forgets : S → ℕ → S → Type 0) (replies : S → ℕ → PlainArray → PlainArray → S → Type 0) where
+  -- it begins anew with a party
+  pub begun_runs : (party : ℕ) (before after : S) → forgets before party after → RunsOn forgets replies before after
+  begun_runs party before after leads start ran = record { events = began party ∷ ran.events; run = (before, ran.run, leads) }
+
+  -- it answers a party's value
+  pub answered_runs : (party : ℕ) (value answer : PlainArray) (before after : S) → replies before party value answer after → RunsOn forgets replies before after
+  answered_runs party value answer before after leads start ran = record { events = answered party value answer ∷ ran.events; run = (before, ran.run, leads) }
+
+module _ {S : Type 0} (forgets : S → ℕ → S → Type 0) (replies : S → ℕ → PlainArray → PlainArray → S → Type 0) (wants : S → ℕ → PlainArray → S → Type 0) where
+  -- a run has an end
+  pub runs_end : (before after : S) → RunsOn forgets replies before after → EndsOn forgets replies wants before after
+  runs_end before after on start ran = record { last = after; runs = on start ran; ends = inl refl }
+
+  -- memory ran out over an answer
+  pub wanted_ends : (party : ℕ) (value : PlainArray) (before after : S) → wants before party value after → EndsOn forgets replies wants before after
+  wanted_ends party value before after wanted start ran = record { last = before; runs = ran; ends = inr (record { party = party; value = value; wanted = wanted }) }
+
+  -- an auxiliary's turn, where memory did not run out for it, and where it did
+  pub ran_comes : (before after : Auxiliary S) → before.is_lost ≡ false → RunsOn forgets replies before.replier after.replier → ComesOn forgets replies wants before after
+  ran_comes before after here on start came =
+      let ran = on start (came.ran here) in
+      record { came = record { last = after.replier; runs = ran; ends = inl refl }; ran = λ _. ran }
+
+  pub ended_comes : (before after : Auxiliary S) → before.is_lost ≡ false → after.is_lost ≡ true → EndsOn forgets replies wants before.replier after.replier → ComesOn forgets replies wants before after
+  ended_comes before after here lost ends start came = record { came = ends start (came.ran here); ran = λ none. absurd (cc (lost, none)) }

@@ -1,4 +1,5 @@
 pub mod Entering
+pub mod GivenBack
 pub mod Participants
 pub mod Seats
 pub mod Serving

@@ -1,6 +1,7 @@
 -- What the turn of an auxiliary does.
 use Rattle.std.specs.Prelude.{◌≡◌, ℕ, false, IsTrue, List, Option, Some}
 use Rattle.apl_arrays.specs.Array.{PlainArray}
+use Rattle.auxiliaries.specs.Run.{CameTo, RunsTo}
 use Rattle.sv_core.specs.Core.{PlainCore}
 use Rattle.sv_events.specs.Work.{act_of}
 use Rattle.sv_events.specs.declared.event.Act.{Act}
@@ -30,3 +31,21 @@ pub record IsAtWork {S : Type 0} (forgets : S → ℕ → S → Type 0) (replies
   pub number : aux.party ≡ party
   pub answered : aux.is_lost ≡ false → HasAnswered forgets replies start journal aux
   pub among : IsTrue (acts_among users party journal)
+
+-- what answers behind an auxiliary goes on by events, from wherever it had come by some
+abbrev pub RunsOn : {S : Type 0} → (S → ℕ → S → Type 0) → (S → ℕ → PlainArray → PlainArray → S → Type 0) → S → S → Type 0
+RunsOn forgets replies before after = (start : _) → RunsTo forgets replies start before → RunsTo forgets replies start after
+
+module _ {S : Type 0} (forgets : S → ℕ → S → Type 0) (replies : S → ℕ → PlainArray → PlainArray → S → Type 0) (wants : S → ℕ → PlainArray → S → Type 0) where
+  -- so it does, but that memory may run out over an answer
+  abbrev pub EndsOn : S → S → Type 0
+  EndsOn before after = (start : S) → RunsTo forgets replies start before → CameTo forgets replies wants start after
+
+  -- what answers behind an auxiliary came to where it is, and by events alone where memory did not run out for the auxiliary
+  pub record CameBehind (start : S) (aux : Auxiliary S) : Type 0 where
+    pub came : CameTo forgets replies wants start aux.replier
+    pub ran : aux.is_lost ≡ false → RunsTo forgets replies start aux.replier
+
+  -- so from wherever it had come
+  abbrev pub ComesOn : Auxiliary S → Auxiliary S → Type 0
+  ComesOn before after = (start : S) → CameBehind start before → CameBehind start after

@@ -6,7 +6,7 @@ ghost use Rattle.sv_rules.specs.Entries.{next_place};
 ghost use Rattle.aux_parties.specs.Auxiliaries.{is_auxiliary};
 ghost use Rattle.sv_rules.specs.Work.{work_of};
 ghost use Rattle.party_turns.specs.Entering.{IsOneIf};
-ghost use Rattle.party_turns.specs.Serving.{MakesWork, TookTurn};
+ghost use Rattle.party_turns.specs.Serving.{ComesOn, EndsOn, MakesWork, RunsOn, TookTurn};
 ghost use Rattle.party_turns.specs.SoFar.{GrowsBy, HasAnswered, IsIdleIf, IsServed};
 
 use apl_arrays::{Array, Name, WantOfMemory};
@@ -57,6 +57,7 @@ impl<X: Replier> Auxiliary<X> {
 
     /// Its turn: it makes its work, if there is any, and says whether it made an entry. It takes memory for the reply and the
     /// entry; where that runs out, it makes no entry any more.
+    #[tactic(auto, using(crate::proofs::Serving::ran_comes, crate::proofs::Serving::ended_comes))]
     pub fn take_turn(&mut self, core: &mut Core) -> bool
         requires { IsTrue (is_auxiliary self.old.party) }
         ensures party { self.new.party ≡ self.old.party }
@@ -66,6 +67,7 @@ impl<X: Replier> Auxiliary<X> {
         ensures turn { self.new.is_lost ≡ false → IsServed self.old.party core.old.journal core.new.journal }
         ensures idle { self.new.is_lost ≡ false → IsIdleIf self.old.party core.old.journal core.new.journal }
         ensures lost { self.old.is_lost ≡ true → (self.new ≡ self.old) × (core.new ≡ core.old) }
+        ensures comes { ComesOn X.forgets X.replies X.wants self.old self.new }
     {
         if self.is_lost {
             return false;
@@ -87,6 +89,8 @@ impl<X: Replier> Auxiliary<X> {
         ensures one { IfOk result (λ made. IsOneIf made self.old.party core.old core.new) }
         ensures ok { OnOk result (TookTurn X.forgets X.replies self.old self.new core.old core.new) }
         ensures err { OnErr result (core.new ≡ core.old) }
+        ensures runs { OnOk result (RunsOn X.forgets X.replies self.old.replier self.new.replier) }
+        ensures ends { EndsOn X.forgets X.replies X.wants self.old.replier self.new.replier }
     {
         match core.work_of(self.party) {
             Work::Idle => Ok(false),
@@ -105,6 +109,8 @@ impl<X: Replier> Auxiliary<X> {
         ensures one { IfOk result (λ made. IsOneIf made self.old.party core.old core.new) }
         ensures ok { OnOk result (TookTurn X.forgets X.replies self.old self.new core.old core.new) }
         ensures err { OnErr result (core.new ≡ core.old) }
+        ensures runs { OnOk result (RunsOn X.forgets X.replies self.old.replier self.new.replier) }
+        ensures ends { EndsOn X.forgets X.replies X.wants self.old.replier self.new.replier }
     {
         self.replier.forget(core.customer(self.party));
         self.enter(core, Work::Control(local), None)
@@ -119,6 +125,8 @@ impl<X: Replier> Auxiliary<X> {
         ensures one { IfOk result (λ made. IsOneIf made self.old.party core.old core.new) }
         ensures ok { OnOk result (TookTurn X.forgets X.replies self.old self.new core.old core.new) }
         ensures err { OnErr result (core.new ≡ core.old) }
+        ensures runs { OnOk result (RunsOn X.forgets X.replies self.old.replier self.new.replier) }
+        ensures ends { EndsOn X.forgets X.replies X.wants self.old.replier self.new.replier }
     {
         let reply = self
             .replier

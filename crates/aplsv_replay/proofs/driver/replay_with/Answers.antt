@@ -1,14 +1,21 @@
-use Rattle.std.proofs.Common.{◌≡◌, ◌∙◌, ◌++◌, [], ℕ, List, ap, arith, length, map, rules, subst, sym, vec_len}
+use Rattle.std.proofs.Common.{◌≡◌, ◌∙◌, ◌++◌, [], ℕ, List, ap, arith, length, map, rules, subst, subst₂, sym, vec_len}
 use Rattle.std.proofs.lemmas.List.{length-map}
+use Rattle.aux_parties.specs.Auxiliaries.{clock_party, text_party}
 use Rattle.bundle_text.specs.Rules.{PlainBundle}
 use Rattle.bundle_text.specs.User.{PlainUser, plain_user}
 use Rattle.session_rules.specs.Run.{IsRun}
 use Rattle.sv_core.specs.Core.{ArePeople, PlainCore}
 use Rattle.aplsv_replay.specs.Endings.{ComesOf}
 use Rattle.aplsv_replay.specs.Replayed.{IsRunInTurns}
+use Rattle.party_turns.specs.GivenBack.{ComeBack}
+use Rattle.party_turns.specs.Serving.{CameBehind}
 use Rattle.party_turns.specs.Sittings.{lent_to}
+use Rattle.party_turns.specs.SoFar.{user_of}
+use Rattle.party_turns.specs.declared.auxiliary.Auxiliary.{Auxiliary}
+use Rattle.party_turns.specs.declared.seat.UserSeat.{UserSeat}
 use Rattle.replay_rules.specs.Turns.{newcomer}
 use Rattle.aplsv_replay.proofs.Ends.{begins_together}
+use Rattle.party_turns.proofs.GivenBack.{newly_behind}
 use Rattle.party_turns.proofs.Parts.{plain_numbers, users_are_people, whole_more}
 use Rattle.party_turns.proofs.Sits.{all_newly, lent_newly}
 use Rattle.aplsv_replay.proofs.driver.replay_with.Goals as goal
@@ -40,8 +47,8 @@ go_through-requires-clause-together g c =
     let together = begins_together g.X.Replier.forgets g.X.Replier.replies g.Y.Replier.forgets g.Y.Replier.replies g.K.Shelf.told g.K.Shelf.faults c.args.bundle c.args.ten c.args.twenty (record { core = c.in-Ok.core; ten = c.new.result; twenty = c.new-2.result; seats = c.fill-seats.result }) c.into_parts-users.ensures.bundle core c.new.ensures c.new-2.ensures (c.fill-seats.ensures.users ∙ kept) seated in
     record { bundle = c.args.bundle; ten = c.args.ten; twenty = c.args.twenty; shelves = lent_to seated.sittings; sittings = seated.sittings; together = together }
 
-pub returns : goal.returns
-returns g c =
+pub returns-clause-run : goal.returns-clause-run
+returns-clause-run g c =
     let kept : map plain_user c.into_vec.result.items ≡ c.args.bundle.users = c.into_vec.ensures.value ∙ ap (λ (b : PlainBundle). b.users) c.into_parts-users.ensures.value in
     let core = c.in-Ok.ensures ∙ ap (λ (list : List ℕ). record { users = list; journal = [] }) (plain_numbers c.users.result.now c.args.bundle.users c.users.ensures.value) in
     let seats = c.fill-seats.result.items in
@@ -60,4 +67,21 @@ returns g c =
       turns = came.turns (ap (λ (p : PlainCore). p.journal) c.in-Ok.ensures) (λ final. c.fill-seats.ensures.newcomers final ∙ ap (λ (list : List PlainUser). map (newcomer final) list) kept)
           (c.as_slice.ensures ∙ ap (λ (b : PlainBundle). b.order) c.into_parts-users.ensures.value);
     })
-    c.go_through.ensures
+    c.go_through.ensures.run
+
+pub returns-clause-ten : goal.returns-clause-ten
+returns-clause-ten g c =
+    c.go_through.ensures.ten c.args.ten
+    (subst (λ (aux : Auxiliary g.row.X.Denot). CameBehind g.X.Replier.forgets g.X.Replier.replies g.X.Replier.wants c.args.ten aux) (sym c.new.ensures) (newly_behind g.X.Replier.forgets g.X.Replier.replies g.X.Replier.wants clock_party c.args.ten))
+
+pub returns-clause-twenty : goal.returns-clause-twenty
+returns-clause-twenty g c =
+    c.go_through.ensures.twenty c.args.twenty
+    (subst (λ (aux : Auxiliary g.row.Y.Denot). CameBehind g.Y.Replier.forgets g.Y.Replier.replies g.Y.Replier.wants c.args.twenty aux) (sym c.new-2.ensures) (newly_behind g.Y.Replier.forgets g.Y.Replier.replies g.Y.Replier.wants text_party c.args.twenty))
+
+pub returns-clause-shelves : goal.returns-clause-shelves
+returns-clause-shelves g c =
+    let kept : map plain_user c.into_vec.result.items ≡ c.args.bundle.users = c.into_vec.ensures.value ∙ ap (λ (b : PlainBundle). b.users) c.into_parts-users.ensures.value in
+    let seats = c.fill-seats.result.items in
+    let many : length seats ≡ length c.args.bundle.users = sym (length-map seats (λ (s : UserSeat g.row.K.Denot). user_of s.session)) ∙ ap (λ (list : List PlainUser). length list) (c.fill-seats.ensures.users ∙ kept) in
+    subst₂ (λ (users : ℕ) (given : List g.row.K.Denot). ComeBack users given c.go_through.result.shelves.items) many c.fill-seats.ensures.shelves c.go_through.ensures.shelves

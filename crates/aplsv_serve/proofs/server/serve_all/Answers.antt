@@ -13,4 +13,4 @@ work_all-requires-send-T g c κs within = search (sendable, crosses, seat_send, 
 
 pub returns-clause-stand : goal.returns-clause-stand
 returns-clause-stand g c =
-    subst (λ (list : List (PartyTask g.row.X.Denot g.row.Y.Denot g.row.K.Denot)). All (PartyStands g.X.Replier.forgets g.X.Replier.replies g.Y.Replier.forgets g.Y.Replier.replies g.K.Shelf.told g.K.Shelf.faults c.args.hall.now) list) (sym c.in-Err.ensures.err) c.requires.stand
+    subst (λ (list : List (PartyTask g.row.X.Denot g.row.Y.Denot g.row.K.Denot)). All (PartyStands g.X.Replier.forgets g.X.Replier.replies g.X.Replier.wants g.Y.Replier.forgets g.Y.Replier.replies g.Y.Replier.wants g.K.Shelf.told g.K.Shelf.faults c.args.hall.now) list) (sym c.in-Err.ensures.err) c.requires.stand

@@ -39,6 +39,9 @@ returns-in-Made-clause-at_work g c = λ start h.
     let made = c.give_service-service.ensures.made c.in-Made.is in
     served_made g.X.Replier.forgets g.X.Replier.replies (users_of_stile stile) c.deref.result.now party start (known_of seat) before after c.args.self.now.auxiliary c.give_service-service.new.auxiliary known numbers c.give_service-service.ensures.party c.give_service-service.ensures.lost c.give_service-service.ensures.answered h (known_of c.finish.new.self.0) c.finish.ensures.known made.0 made.1
 
+pub returns-in-Made-clause-comes : goal.returns-in-Made-clause-comes
+returns-in-Made-clause-comes g c = c.give_service-service.ensures.comes
+
 pub returns-in_default : goal.returns-in_default
 returns-in_default g c =
     let stile = c.args.hall.now.stile in
@@ -62,4 +65,5 @@ returns-in_default g c =
       seat = seat_rested stile party seat new own.view c.requires.seat (c.give_back.ensures.same.0 ∙ c.enter-turn.ensures.seat.0) own.here (own.table_is ∙ c.enter-turn.ensures.found.2) (own.members_are ∙ c.enter-turn.ensures.found.1) before.journal mine kept is;
       room = search rules;
       at_work = λ start h. served_rested g.X.Replier.forgets g.X.Replier.replies (users_of_stile stile) c.deref.result.now party start (known_of seat) before after c.args.self.now.auxiliary c.give_service-service.new.auxiliary known numbers c.give_service-service.ensures.party c.give_service-service.ensures.lost c.give_service-service.ensures.answered h (known_of new) is rests;
+      comes = c.give_service-service.ensures.comes;
     }
