@@ -7,7 +7,12 @@ ghost use Rattle.std.specs.Vec.Iter.{into_iter_items, into_iter_len};
 ghost use Rattle.apl_arrays.specs.Limits.{most_input_bytes, most_users};
 ghost use Rattle.apl_io.specs.Faults.{Rose};
 ghost use Rattle.apl_io.specs.Whole.{AreAtMost};
+ghost use Rattle.aplsv_words.specs.Looks.{MeanNoLook, MeanToLook};
 ghost use Rattle.aplsv_words.specs.Meaning.{Asked, Means};
+ghost use Rattle.aplsv_words.specs.declared.look.Look.{Look};
+ghost use Rattle.aplsv_look.specs.Causes.{HasLookCause, most_looked_at};
+ghost use Rattle.aplsv_look.specs.Statuses.{IsLookConclusion};
+ghost use Rattle.aplsv_look.specs.declared.status.LookStatus.TheVariants as look_status;
 ghost use Rattle.aplsv_top.specs.Causes.{HasCause};
 ghost use Rattle.aplsv_top.specs.Checks.{AskCheck, HasCheckCause, IsCheckConclusion, most_checked_bytes};
 ghost use Rattle.aplsv_top.specs.Headline.{IsOutputAs};
@@ -19,6 +24,7 @@ ghost use Rattle.check_rules.specs.declared.verdict.Verdict.{Verdict};
 use apl_arrays::{USER_LIMIT, WantOfMemory};
 use apl_io::{Devices, Sink, Source};
 use aplsv_devices::{DirShelf, DirText, OpenGate, StdSink, StdSource, SystemClock};
+use aplsv_look::{LookStatus, aplsv_look_words};
 use aplsv_top::{Finish, Status, aplsv, aplsv_check_words};
 use bundle_text::BundleRule;
 use refusal_lines::{malformed_lines, usage_lines};
@@ -199,6 +205,57 @@ fn ending_by_words<R: Threads + Wait + Sync, S: Source, W: Sink>(
     }
 }
 
+// What the program does for its words, the program's name in front, where a look is asked for.
+fn looked<S: Source, W: Sink>(
+    alloc: Global,
+    words: &[String],
+    input: &mut S,
+    output: &mut W,
+) -> LookStatus
+    ensures causes { (look : Look) → MeanToLook (map string_bytes (drop 1 words.now)) look → HasLookCause look result
+        (record { bytes = S.left input.old; faults = S.faults input.old }) (record { bytes = S.left input.new; faults = S.faults input.new })
+        (record { bytes = W.held output.old; faults = W.faults output.old }) (record { bytes = W.held output.new; faults = W.faults output.new }) }
+    ensures usage { result ≡ look_status.Usage → MeanNoLook (map string_bytes (drop 1 words.now)) }
+    ensures meaningless { MeanNoLook (map string_bytes (drop 1 words.now)) → (result ≡ look_status.Usage) ⊎ (result ≡ look_status.WantOfMemory) }
+    ensures unread { MeanNoLook (map string_bytes (drop 1 words.now)) → (input.new ≡ input.old) × (output.new ≡ output.old) }
+    ensures unwritten { result ≢ look_status.Done → result ≢ look_status.WriteFault → output.new ≡ output.old }
+    ensures complete { (look : Look) → MeanToLook (map string_bytes (drop 1 words.now)) look → AreAtMost (S.left input.old) most_looked_at
+        → ¬ (Rose (S.faults input.old) (S.faults input.new)) → ¬ (Rose (W.faults output.old) (W.faults output.new))
+        → IsLookConclusion result }
+{
+    aplsv_look_words(alloc, behind_name(words), input, output)
+}
+
+// The same for the words of the process.
+fn ending_of_look<S: Source, W: Sink>(
+    rt: HostRuntime,
+    given: Args,
+    input: &mut S,
+    output: &mut W,
+) -> Result<LookStatus, AllocError>
+    ensures unread { IfOk result (λ ending. ending ≡ look_status.Usage → (input.new ≡ input.old) × (output.new ≡ output.old)) }
+    ensures unwritten { IfOk result (λ ending. ending ≢ look_status.Done → ending ≢ look_status.WriteFault → output.new ≡ output.old) }
+    ensures refused { IfErr result (λ _. (input.new ≡ input.old) × (output.new ≡ output.old)) }
+{
+    let words = all_words(rt.alloc(), given)?;
+    Ok(looked(rt.alloc(), &words, input, output))
+}
+
+// The same, where words that are no text ask for no look.
+fn status_of_look<S: Source, W: Sink>(rt: HostRuntime, input: &mut S, output: &mut W) -> LookStatus
+    ensures unread { result ≡ look_status.Usage → (input.new ≡ input.old) × (output.new ≡ output.old) }
+    ensures unwritten { result ≢ look_status.Done → result ≢ look_status.WriteFault → output.new ≡ output.old }
+{
+    match env::args(&rt) {
+        Ok(given) => match ending_of_look(rt, given, input, output) {
+            Ok(status) => status,
+            Err(AllocError) => LookStatus::WantOfMemory,
+        },
+        Err(fault) if fault.kind() == ErrorKind::OutOfMemory => LookStatus::WantOfMemory,
+        Err(_) => LookStatus::Usage,
+    }
+}
+
 // How it ends for the words of the process.
 fn ending<R: Threads + Wait + Sync, S: Source, W: Sink>(
     rt: HostRuntime,
@@ -261,9 +318,22 @@ fn say(rt: &HostRuntime, status: Status, read: Option<&[u8]>) -> io::Result<()> 
     }
 }
 
+// What a look comes to: its line on standard error, where it is not done, and its exit status.
+fn code_of_look(rt: &HostRuntime, status: LookStatus) -> ExitCode {
+    if status != LookStatus::Done {
+        // Where standard error fails too, the exit status still tells.
+        let _ = eprintln!(rt; "{status}");
+    }
+    ExitCode::from(status.code())
+}
+
 fn main(rt: HostRuntime) -> ExitCode {
     let mut input = StdSource::new(rt.alloc(), rt.stdin());
     let mut output = StdSink::new(rt.stdout());
+    let looked = status_of_look(rt, &mut input, &mut output);
+    if looked != LookStatus::Usage {
+        return code_of_look(&rt, looked);
+    }
     let status = status_of(rt, &rt, &mut input, &mut output);
     if status != Status::Done {
         // Where standard error fails too, the exit status still tells.

@@ -13,6 +13,7 @@ pub fn code_of(ending: &str) -> u8 {
         "input too long" => 5,
         "out of memory" => 6,
         "not a run" => 7,
+        "no entry" => 8,
         _ => 2,
     }
 }

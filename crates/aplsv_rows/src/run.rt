@@ -6,6 +6,7 @@ use crate::gates::Meeting;
 use anyhow::Result;
 use apl_arrays::{Bytes, FileList, List, USER_LIMIT, WantOfMemory};
 use apl_io::{CallNumbers, MemoryClock, MemoryShelf, MemorySink, MemorySource, MemoryText};
+use aplsv_look::{LookStatus, aplsv_look_words};
 use aplsv_top::{Status, aplsv, aplsv_check_words};
 use std::alloc::Global;
 use std::sync::Wait;
@@ -103,6 +104,41 @@ pub fn ended_as(alloc: Global, status: Status, written: &[u8]) -> Result<Program
     })
 }
 
+// How a look ended, where the words ask for one.
+fn looked_over(
+    alloc: Global,
+    words: &[String],
+    source: &mut MemorySource,
+    sink: &mut MemorySink,
+) -> Result<Option<ProgramEnd>, WantOfMemory> {
+    match aplsv_look_words(alloc, words, source, sink) {
+        LookStatus::Usage => Ok(None),
+        LookStatus::WantOfMemory => Err(WantOfMemory),
+        status => {
+            let told = status.to_string(alloc)?;
+            let written = Vec::from_slice(alloc, sink.bytes())?;
+            Ok(Some(ProgramEnd {
+                code: status.code(),
+                told,
+                written,
+            }))
+        }
+    }
+}
+
+// How a run or a check ended.
+fn ran_over<R: Threads + Wait + Sync>(
+    threads: &R,
+    alloc: Global,
+    words: &[String],
+    source: &mut MemorySource,
+    sink: &mut MemorySink,
+    gate: &Meeting,
+) -> Result<ProgramEnd, WantOfMemory> {
+    let status = ended_over(threads, alloc, words, source, sink, gate)?;
+    ended_as(alloc, status, sink.bytes())
+}
+
 // A run into a sink of its own.
 fn run_into_sink<R: Threads + Wait + Sync>(
     threads: &R,
@@ -114,8 +150,9 @@ fn run_into_sink<R: Threads + Wait + Sync>(
 ) -> Result<ProgramEnd, WantOfMemory> {
     let Device { piece, fails } = case.sink;
     let mut sink = MemorySink::new(alloc, case.room, piece.max(1), numbers(alloc, fails)?)?;
-    let ended = match ended_over(threads, alloc, words, source, &mut sink, gate) {
-        Ok(status) => ended_as(alloc, status, sink.bytes()),
+    let ended = match looked_over(alloc, words, source, &mut sink) {
+        Ok(Some(ended)) => Ok(ended),
+        Ok(None) => ran_over(threads, alloc, words, source, &mut sink, gate),
         Err(WantOfMemory) => Err(WantOfMemory),
     };
     drop(sink);

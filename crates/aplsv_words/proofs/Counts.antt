@@ -10,7 +10,7 @@ use Rattle.aplsv_words.proofs.Parses.{said_once}
 
 -- ---- counts
 
-module _ (most : ℕ) (small : most ≤ 100000) where
+module _ (most : ℕ) (small : most < 2 ^ 64) where
   fits_in : (n : ℕ) → n ≤ most → n < 2 ^ 64
   fits_in n few = omega (arith, few, small)
 
@@ -60,7 +60,7 @@ module _ (most : ℕ) (small : most ≤ 100000) where
       let same : n ≡ m = decimal_injective n m fits (fits_in m count.few) (sym is ∙ count.digits) in
       omega (arith, many, same, count.few)
 
-  counted_once : (written : Option Text) (one other : Option ℕ) → CountsAs most written one → CountsAs most written other → one ≡ other
+  pub counted_once : (written : Option Text) (one other : Option ℕ) → CountsAs most written one → CountsAs most written other → one ≡ other
   counted_once None None None a b = refl
   counted_once None None (Some m) a b = absurd b
   counted_once None (Some n) other a b = absurd a

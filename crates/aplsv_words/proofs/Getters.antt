@@ -10,7 +10,7 @@ use Rattle.std.proofs.lemmas.Slice.Eq.{bytes_eq-Decides}
 use Rattle.clap.specs.Faults.{built_fault, check_fault, default_fault, defaults_fault, entered_fault, fault_of, given_default_fault, settle_fault, walk_fault}
 use Rattle.clap.specs.Kinds.{Kinds, check_kinds, or_else}
 use Rattle.clap.specs.Matches.{first_value, found_of, one_text}
-use Rattle.clap.specs.Simple.{App, HasMatchesOf, entered, is_simple, matches_of, names_of}
+use Rattle.clap.specs.Simple.{App, HasMatchesOf, entered, matches_of, names_of}
 use Rattle.clap.specs.Takes.{is_given}
 use Rattle.clap.specs.Walk.{Held, Row, default_rows, finished, first_of, has_row, is_empty, more_values, nothing_held, one_of, reading_by, row_text, rows_after, rows_of, settled, walk, with_default}
 use Rattle.clap.specs.declared.builder.value_parser.Reading.TheVariants.{AsWritten}
@@ -24,7 +24,7 @@ use Rattle.aplsv_words.specs.declared.written.Written.{Written}
 use Rattle.aplsv_words.proofs.Readings.{IsFree, ended, spelled_are_read, standing}
 use Rattle.aplsv_words.proofs.Settings.{known_word, word_with}
 use Rattle.aplsv_words.proofs.Texts.{found_holds, found_passes}
-use Rattle.aplsv_words.proofs.Walks.{app, argument, arguments, both_none, built_is, names_fit, none_of, row_for, row_missing, shape}
+use Rattle.aplsv_words.proofs.Walks.{IsTable, app, argument, arguments, both_none, none_of, row_for, row_missing, shape, words_are_a_table}
 
 -- ---- faults
 
@@ -94,12 +94,13 @@ module _ (words : List Word) (texts : List Text) where
       let later = none_of (entered_fault (app words) stop) end_faults parts.1 in
       record { walk = parts.0; end = (none_of (settle_fault (arguments words) false end) (or_else defaults checks) later.1).0 }
 
--- the parser has no fault at words of the table exactly where they are free
-pub free_is_taken : (texts : List Text) → IsFree table (standing table [] None) texts → fault_of (command_of table) texts ≡ []
-free_is_taken texts free = ap (λ (a : App). built_fault a nothing_held texts) built_is ∙ free_has_no_fault table texts free
+-- the parser has no fault at words of a table exactly where they are free
+module _ (words : List Word) (t : IsTable words) (texts : List Text) where
+  pub free_is_taken : IsFree words (standing words [] None) texts → fault_of (command_of words) texts ≡ []
+  free_is_taken free = ap (λ (a : App). built_fault a nothing_held texts) t.built ∙ free_has_no_fault words texts free
 
-pub taken_is_free : (texts : List Text) → fault_of (command_of table) texts ≡ [] → IsFree table (standing table [] None) texts
-taken_is_free texts e = no_fault_is_free table texts (sym (ap (λ (a : App). built_fault a nothing_held texts) built_is) ∙ e)
+  pub taken_is_free : fault_of (command_of words) texts ≡ [] → IsFree words (standing words [] None) texts
+  taken_is_free e = no_fault_is_free words texts (sym (ap (λ (a : App). built_fault a nothing_held texts) t.built) ∙ e)
 
 -- ---- the rows at the end
 
@@ -269,16 +270,39 @@ module _ (words : List Word) (settings : List Setting) (fine : AreFine words set
 
 -- ---- the parse of words that spell settings
 
-pub spelled_are_told : (settings : List Setting) (texts : List Text) → Spell settings texts → AreFine table settings → matches_of (command_of table) texts ≡ fold with_default (map row_for settings) (arguments table)
-spelled_are_told settings texts spelled fine =
-    let read = spelled_are_read table names_fit settings texts spelled fine in
-    ap (λ (a : App). rows_after a.top.rules (names_of a) texts) built_is ∙ ap (λ (rows : List Row). fold with_default rows (arguments table)) read.rows
+module _ (words : List Word) (t : IsTable words) (texts : List Text) (settings : List Setting) (spelled : Spell settings texts) (fine : AreFine words settings) where
+  pub spelled_are_told : matches_of (command_of words) texts ≡ fold with_default (map row_for settings) (arguments words)
+  spelled_are_told =
+      let read = spelled_are_read words t.names settings texts spelled fine in
+      ap (λ (a : App). rows_after a.top.rules (names_of a) texts) t.built ∙ ap (λ (rows : List Row). fold with_default rows (arguments words)) read.rows
 
-pub spelled_are_taken : (settings : List Setting) (texts : List Text) → Spell settings texts → AreFine table settings → fault_of (command_of table) texts ≡ []
-spelled_are_taken settings texts spelled fine = free_is_taken texts (spelled_are_read table names_fit settings texts spelled fine).free
+  pub spelled_are_taken : fault_of (command_of words) texts ≡ []
+  spelled_are_taken = free_is_taken words t texts (spelled_are_read words t.names settings texts spelled fine).free
 
-is_simple_table : is_simple (command_of table) ≡ true
-is_simple_table = refl
+  -- what a parse tells of a name is what the settings say of it
+  module _ (m : ArgMatches) (has : HasMatchesOf (command_of words) texts m) (name : Text) where
+    told_rows : rows_of (found_of m) ≡ fold with_default (map row_for settings) (arguments words)
+    told_rows = (has t.told).0 ∙ spelled_are_told
+
+    pub flag_read : word_of words name ≡ Some (flag name) → (b : Bool) → IsFlagOf (one_text (found_of m) name) b → b ≡ has_setting name settings
+    flag_read word b is =
+        flag_is words settings fine name word b (subst (λ (o : Option Text). IsFlagOf o b) (one_text-rows (found_of m) name ∙ ap (one_of name) told_rows) is)
+
+    pub value_read : word_of words name ≡ Some (word_with_value name) → list_all (takes_if_named name) words ≡ true → (value : Option Text) → value ≡ first_value (found_of m) name → value ≡ value_written_for name settings
+    value_read word fit value is = is ∙ ((first_value-rows (found_of m) name ∙ ap (first_of name) told_rows) ∙ value_is words settings fine name word fit)
+
+-- what words that spell two lists of settings say of a name
+module _ (words : List Word) (t : IsTable words) (texts : List Text) (settings others : List Setting) (spelled : Spell settings texts) (fine : AreFine words settings) (spells : Spell others texts) (good : AreFine words others) (name : Text) where
+  same_rows : fold with_default (map row_for others) (arguments words) ≡ fold with_default (map row_for settings) (arguments words)
+  same_rows = sym (spelled_are_told words t texts others spells good) ∙ spelled_are_told words t texts settings spelled fine
+
+  pub same_flag : word_of words name ≡ Some (flag name) → has_setting name settings ≡ has_setting name others
+  same_flag word =
+      one_flag name (told words settings fine name) (has_setting name settings) (has_setting name others) (flag_tells words settings fine name word)
+      (subst (λ (rs : List Row). TellsFlag name rs (has_setting name others)) same_rows (flag_tells words others good name word))
+
+  pub same_value : word_of words name ≡ Some (word_with_value name) → list_all (takes_if_named name) words ≡ true → value_written_for name settings ≡ value_written_for name others
+  same_value word fit = sym (value_is words settings fine name word fit) ∙ (ap (first_of name) (sym same_rows) ∙ value_is words others good name word fit)
 
 abbrev says : Bool → Option Text → Option Text → Option Text → Bool → Option Text → Bool → Bool → Said
 says replay workers library text clock load components relay =
@@ -299,34 +323,18 @@ pub read_is_said : (m : ArgMatches) (written : Written) (texts : List Text) (set
     → IsFlagOf (one_text (found_of m) (codes "relay")) written.relay
     → said_by settings ≡ said_in written
 read_is_said m written texts settings has spelled fine replay workers library text clock load components relay =
-    let rows : rows_of (found_of m) ≡ fold with_default (map row_for settings) (arguments table) = (has is_simple_table).0 ∙ spelled_are_told settings texts spelled fine in
-    let one : (name : Text) → one_text (found_of m) name ≡ one_of name (told table settings fine name) = λ name. one_text-rows (found_of m) name ∙ ap (one_of name) rows in
-    let first : (name : Text) → first_value (found_of m) name ≡ first_of name (told table settings fine name) = λ name. first_value-rows (found_of m) name ∙ ap (first_of name) rows in
-    let e_replay : written.replay ≡ has_setting (codes "replay") settings =
-    flag_is table settings fine (codes "replay") refl written.replay (subst (λ (o : Option Text). IsFlagOf o written.replay) (one (codes "replay")) replay) in
-    let e_workers : (said_in written).workers ≡ value_written_for (codes "workers") settings = workers ∙ (first (codes "workers") ∙ value_is table settings fine (codes "workers") refl refl) in
-    let e_library : (said_in written).library ≡ value_written_for (codes "library") settings = library ∙ (first (codes "library") ∙ value_is table settings fine (codes "library") refl refl) in
-    let e_text : (said_in written).text ≡ value_written_for (codes "text") settings = text ∙ (first (codes "text") ∙ value_is table settings fine (codes "text") refl refl) in
-    let e_clock : written.clock ≡ has_setting (codes "clock") settings =
-    flag_is table settings fine (codes "clock") refl written.clock (subst (λ (o : Option Text). IsFlagOf o written.clock) (one (codes "clock")) clock) in
-    let e_load : (said_in written).load ≡ value_written_for (codes "load") settings = load ∙ (first (codes "load") ∙ value_is table settings fine (codes "load") refl refl) in
-    let e_components : written.components ≡ has_setting (codes "components") settings =
-    flag_is table settings fine (codes "components") refl written.components (subst (λ (o : Option Text). IsFlagOf o written.components) (one (codes "components")) components) in
-    let e_relay : written.relay ≡ has_setting (codes "relay") settings =
-    flag_is table settings fine (codes "relay") refl written.relay (subst (λ (o : Option Text). IsFlagOf o written.relay) (one (codes "relay")) relay) in
+    let flags = flag_read table words_are_a_table texts settings spelled fine m has in
+    let values = value_read table words_are_a_table texts settings spelled fine m has in
     sym (says_alike written.replay (has_setting (codes "replay") settings) (said_in written).workers (value_written_for (codes "workers") settings) (said_in written).library (value_written_for (codes "library") settings) (said_in written).text (value_written_for (codes "text") settings)
     written.clock (has_setting (codes "clock") settings) (said_in written).load (value_written_for (codes "load") settings) written.components (has_setting (codes "components") settings) written.relay (has_setting (codes "relay") settings)
-    e_replay e_workers e_library e_text e_clock e_load e_components e_relay)
+    (flags (codes "replay") refl written.replay replay) (values (codes "workers") refl refl (said_in written).workers workers) (values (codes "library") refl refl (said_in written).library library) (values (codes "text") refl refl (said_in written).text text)
+    (flags (codes "clock") refl written.clock clock) (values (codes "load") refl refl (said_in written).load load) (flags (codes "components") refl written.components components) (flags (codes "relay") refl written.relay relay))
 
 -- words that spell two lists of settings say the same
 pub one_meaning : (texts : List Text) (settings others : List Setting) → Spell settings texts → AreFine table settings → Spell others texts → AreFine table others → said_by settings ≡ said_by others
 one_meaning texts settings others spelled fine spells good =
-    let rows : fold with_default (map row_for others) (arguments table) ≡ fold with_default (map row_for settings) (arguments table) = sym (spelled_are_told others texts spells good) ∙ spelled_are_told settings texts spelled fine in
-    let flags : (name : Text) → word_of table name ≡ Some (flag name) → has_setting name settings ≡ has_setting name others = λ name word.
-    one_flag name (told table settings fine name) (has_setting name settings) (has_setting name others) (flag_tells table settings fine name word)
-    (subst (λ (rs : List Row). TellsFlag name rs (has_setting name others)) rows (flag_tells table others good name word)) in
-    let values : (name : Text) → word_of table name ≡ Some (word_with_value name) → list_all (takes_if_named name) table ≡ true → value_written_for name settings ≡ value_written_for name others = λ name word fit.
-    sym (value_is table settings fine name word fit) ∙ (ap (first_of name) (sym rows) ∙ value_is table others good name word fit) in
+    let flags = same_flag table words_are_a_table texts settings others spelled fine spells good in
+    let values = same_value table words_are_a_table texts settings others spelled fine spells good in
     says_alike (has_setting (codes "replay") settings) (has_setting (codes "replay") others) (value_written_for (codes "workers") settings) (value_written_for (codes "workers") others) (value_written_for (codes "library") settings) (value_written_for (codes "library") others)
     (value_written_for (codes "text") settings) (value_written_for (codes "text") others) (has_setting (codes "clock") settings) (has_setting (codes "clock") others)
     (value_written_for (codes "load") settings) (value_written_for (codes "load") others)

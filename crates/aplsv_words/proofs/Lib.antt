@@ -1,6 +1,7 @@
 pub mod Counts
 pub mod Getters
 pub mod Lexing
+pub mod Looks
 pub mod Parses
 pub mod Readings
 pub mod Settings

@@ -7,7 +7,7 @@ use Rattle.std.proofs.lemmas.Bool.{or_parts}
 use Rattle.std.proofs.lemmas.List.{map_push}
 use Rattle.clap.specs.Faults.{is_simple_and_free, settle_fault, use_fault}
 use Rattle.clap.specs.Kinds.{Kinds, or_else}
-use Rattle.clap.specs.Simple.{App, Shape, built}
+use Rattle.clap.specs.Simple.{App, Shape, built, is_simple}
 use Rattle.clap.specs.Walk.{Held, Row, Rule, arg_by_id, arg_by_index, arg_by_long, at_row, has_row, more_values, settled, settled_rows, used, used_by_id, with_values, without}
 use Rattle.clap.specs.declared.builder.action.ArgAction.TheVariants.{Set, SetTrue}
 use Rattle.clap.specs.declared.builder.value_parser.Reading.TheVariants.{AsWritten}
@@ -16,7 +16,7 @@ use Rattle.clap.specs.declared.error.kind.ErrorKind.{ErrorKind}
 use Rattle.clap.specs.declared.error.kind.ErrorKind.TheVariants as kind
 use Rattle.clap.specs.declared.parser.matches.ValueSource.TheVariants.{CommandLine}
 use Rattle.aplsv_words.specs.CommandLine.{command_of}
-use Rattle.aplsv_words.specs.Table.{Word, flag, table, word_with_value}
+use Rattle.aplsv_words.specs.Table.{Word, flag, look_table, table, word_with_value}
 use Rattle.aplsv_words.specs.Meaning.{AreFine, Setting, Text, has_setting, word_of}
 use Rattle.aplsv_words.proofs.Lexing.{is_name}
 use Rattle.aplsv_words.proofs.Settings.{alone, fine_more, fine_next, known_value, value_known, with_value}
@@ -72,15 +72,19 @@ shape words = record {
 abbrev pub app : List Word → App
 app words = record { top = shape words; subs = [] }
 
--- of the table at hand: how it is built, that the parser tells all of its parses, and that `=` can end each name
-pub built_is : built (command_of table) ≡ app table
-built_is = refl
+-- the parser builds these words as they stand, tells all of its parses, and `=` can end each name
+pub record IsTable (words : List Word) : Type 0 where
+  pub built : built (command_of words) ≡ app words
+  pub free : is_simple_and_free (command_of words) ≡ true
+  pub told : is_simple (command_of words) ≡ true
+  pub names : list_all (λ word. is_name word.name) words ≡ true
 
-pub table_is_simple : is_simple_and_free (command_of table) ≡ true
-table_is_simple = refl
+-- the words of a run are such a table, and so are those of a look
+pub words_are_a_table : IsTable table
+words_are_a_table = record { built = refl; free = refl; told = refl; names = refl }
 
-pub names_fit : list_all (λ word. is_name word.name) table ≡ true
-names_fit = refl
+pub looks_are_a_table : IsTable look_table
+looks_are_a_table = record { built = refl; free = refl; told = refl; names = refl }
 
 -- ---- look-ups
 

@@ -11,7 +11,7 @@ use Rattle.aplsv_words.specs.Stray.{is_stray}
 use Rattle.aplsv_words.specs.Table.{table}
 use Rattle.aplsv_words.proofs.Getters.{spelled_are_taken}
 use Rattle.aplsv_words.proofs.Parses.{strays_say_nothing}
-use Rattle.aplsv_words.proofs.Walks.{no_kinds}
+use Rattle.aplsv_words.proofs.Walks.{no_kinds, words_are_a_table}
 
 -- words that spell settings say what these do
 pub say_by : (texts : List Text) (settings : List Setting) → Spell settings texts → AreFine table settings → Say texts (said_by settings)
@@ -23,7 +23,7 @@ means_by texts settings asked spelled fine asks = record { said = said_by settin
 
 -- words at which the parser has a fault
 pub faults_mean_nothing : (texts : List Text) (k : ErrorKind) (ks : Kinds) → fault_of (command_of table) texts ≡ k ∷ ks → MeanNothing texts
-faults_mean_nothing texts k ks faults asked means = no_kinds k ks (sym faults ∙ spelled_are_taken means.say.settings texts means.say.spelled means.say.fine)
+faults_mean_nothing texts k ks faults asked means = no_kinds k ks (sym faults ∙ spelled_are_taken table words_are_a_table texts means.say.settings means.say.spelled means.say.fine)
 
 -- and words of which one is a stray one
 pub a_stray_means_nothing : (texts : List Text) → list_any is_stray texts ≡ true → MeanNothing texts

@@ -3,3 +3,4 @@ pub mod Meaning
 pub mod Stray
 pub mod CommandLine
 pub mod Laws
+pub mod Looks

@@ -17,3 +17,7 @@ word_with_value name = record { name = name; takes_value = true }
 -- the table: --replay, --workers N, --library DIR, --text DIR, --clock, --load N, --components, --relay
 abbrev pub table : List Word
 table = flag (codes "replay") ∷ word_with_value (codes "workers") ∷ word_with_value (codes "library") ∷ word_with_value (codes "text") ∷ flag (codes "clock") ∷ word_with_value (codes "load") ∷ flag (codes "components") ∷ flag (codes "relay") ∷ []
+
+-- the table of what is asked of a printed output: --picture, --from N, --to N, --why N
+abbrev pub look_table : List Word
+look_table = flag (codes "picture") ∷ word_with_value (codes "from") ∷ word_with_value (codes "to") ∷ word_with_value (codes "why") ∷ []

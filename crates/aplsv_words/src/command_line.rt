@@ -63,16 +63,16 @@ fn command_line<'a>(alloc: Global) -> Result<Command<'a>, AllocError>
     Ok(whole)
 }
 
-// A word without a value.
-fn flag<'a>(alloc: Global, name: &'a str) -> Arg<'a>
+/// A word without a value.
+pub(crate) fn flag<'a>(alloc: Global, name: &'a str) -> Arg<'a>
     ensures rule { rule_of result ≡ flag_rule name.entry.now }
     ensures local { result.global ≡ false }
 {
     Arg::new(alloc, name).long(name).action(ArgAction::SetTrue)
 }
 
-// A word with a value, which is not empty.
-fn valued<'a>(alloc: Global, name: &'a str) -> Arg<'a>
+/// A word with a value, which is not empty.
+pub(crate) fn valued<'a>(alloc: Global, name: &'a str) -> Arg<'a>
     ensures rule { rule_of result ≡ value_rule name.entry.now }
     ensures local { result.global ≡ false }
 {
@@ -104,14 +104,15 @@ fn words_in<'a>(matches: ArgMatches<'a>) -> Written<'a>
     }
 }
 
-fn flag_in<'a>(matches: &ArgMatches<'a>, name: &str) -> bool
+/// Whether a word without a value was written.
+pub(crate) fn flag_in<'a>(matches: &ArgMatches<'a>, name: &str) -> bool
     ensures { IsFlagOf (one_text (found_of matches.now) name.now) result }
 {
     matches.get_flag(name)
 }
 
-// Why a parse failed: memory, or the words.
-fn refusal(error: Error) -> WordsRefused
+/// Why a parse failed: memory, or the words.
+pub(crate) fn refusal(error: Error) -> WordsRefused
     ensures { result ≡ refusal_of (kind_of error) }
 {
     match error.kind() {

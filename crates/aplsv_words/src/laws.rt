@@ -1,10 +1,17 @@
-ghost use Rattle.std.specs.Prelude.{[], ◌∷◌, Some, true, codes};
+ghost use Rattle.std.specs.Prelude.{[], ◌∷◌, None, Some, true, codes};
 ghost use Rattle.aplsv_words.specs.Laws.{MeanNothing, WordsHaveOneMeaning, nothing, replay_alone};
+ghost use Rattle.aplsv_words.specs.Looks.{LooksHaveOneMeaning, MeanNoLook, MeanToLook};
 ghost use Rattle.aplsv_words.specs.Meaning.{Means};
+ghost use Rattle.aplsv_words.specs.declared.look.Look.TheVariants.{Picture, Why};
 
 /// Words have one meaning and no other. The call does nothing.
 pub fn words_have_one_meaning()
     ensures { WordsHaveOneMeaning }
+{}
+
+/// Words mean one look and no other. The call does nothing.
+pub fn looks_have_one_meaning()
+    ensures { LooksHaveOneMeaning }
 {}
 
 /// Words at work: none; one; all, in another order and with values in both ways; a value that begins with a hyphen behind
@@ -54,4 +61,26 @@ pub fn worked_words()
     ensures components_untaken { MeanNothing (codes "--components=A" ∷ []) }
     ensures relay_twice { MeanNothing (codes "--relay" ∷ codes "--replay" ∷ codes "--relay" ∷ []) }
     ensures load_replayed { MeanNothing (codes "--load" ∷ codes "5" ∷ codes "--replay" ∷ []) }
+{}
+
+/// Words that ask for a look: a picture of all entries, of those from a place, up to one, and between two, in any order and with
+/// values in both ways; and why an entry is what it is, the last one that a word can name too. And words that ask for none: none;
+/// a place without a picture; a picture beside a reason; a place that is zero, has a zero in front, a sign, or is too large; one
+/// that is not there; a word twice, with a value that it does not take, or of another table. The call does nothing.
+pub fn worked_looks()
+    ensures picture { MeanToLook (codes "--picture" ∷ []) (Picture None None) }
+    ensures from { MeanToLook (codes "--picture" ∷ codes "--from" ∷ codes "7" ∷ []) (Picture (Some 7) None) }
+    ensures stretch { MeanToLook (codes "--to=9" ∷ codes "--picture" ∷ codes "--from=7" ∷ []) (Picture (Some 7) (Some 9)) }
+    ensures why { MeanToLook (codes "--why" ∷ codes "7" ∷ []) (Why 7) }
+    ensures none { MeanNoLook [] }
+    ensures to_alone { MeanNoLook (codes "--to=9" ∷ []) }
+    ensures why_beside { MeanNoLook (codes "--picture" ∷ codes "--why=7" ∷ []) }
+    ensures why_from { MeanNoLook (codes "--why=7" ∷ codes "--from=7" ∷ []) }
+    ensures zero { MeanNoLook (codes "--why=0" ∷ []) }
+    ensures leading_zero { MeanNoLook (codes "--why=07" ∷ []) }
+    ensures plus { MeanNoLook (codes "--picture" ∷ codes "--to=+9" ∷ []) }
+    ensures missing { MeanNoLook (codes "--why" ∷ []) }
+    ensures twice { MeanNoLook (codes "--picture" ∷ codes "--picture" ∷ []) }
+    ensures untaken { MeanNoLook (codes "--picture=9" ∷ []) }
+    ensures other { MeanNoLook (codes "--picture" ∷ codes "--replay" ∷ []) }
 {}

@@ -12,8 +12,12 @@ Its words:
   --components   keeps files of arrays behind party 20, in the place of files of lines
   --relay        carries texts between users behind party 10, in the place of telling the time
   --check        reads a bundle and behind it a text, and says whether the text is the output of a run of the bundle
-Each stands once at most, in any order, --check alone, and one of --replay, --workers and --load alone. N is from 1 to 34 for workers and from
-1 to 100000 for a load, without a sign or a 0 in front.
+  --picture      reads an output in the place of a bundle, and draws entries of its journal as an SVG, 2000 at most
+  --from N       begins the picture with entry N, and not with the first one
+  --to N         ends the picture with entry N, and not with the last one
+  --why N        reads an output in the place of a bundle, and says why entry N of its journal is what it is
+Each stands once at most, in any order; --check alone, --why alone, --picture with --from and --to alone, and one of --replay, --workers
+and --load alone. N is from 1 to 34 for workers, from 1 to 100000 for a load, and else the place of an entry, without a sign or a 0 in front.
 DIR is not empty. A value is the next word, and then begins with no -, or it follows =.
 "
 }

@@ -8,8 +8,8 @@ use std::str;
 #[derive(Clone, Copy, Debug)]
 pub struct Meanings;
 
-// The words of a field: none, where it is `none`.
-fn words_in(alloc: Global, lines: &str) -> Result<Vec<String>, AllocError> {
+/// The words of a field: none, where it is `none`.
+pub fn words_in(alloc: Global, lines: &str) -> Result<Vec<String>, AllocError> {
     let mut words = Vec::new(alloc);
     if lines != "none" {
         for line in lines.split('\n') {

@@ -5,7 +5,7 @@ use Rattle.aplsv_words.proofs.asked.number_of.Goals as goal
 
 pub returns-then-count-most : goal.returns-then-count-most
 returns-then-count-most c =
-    read_counts c.args.most c.requires.small c.args.text.now c.in-Ok.count c.requires.first c.in-Ok.ensures.value.0.0.0 c.in-Ok.ensures.value.0.1 c.if-count-most.true
+    read_counts c.args.most (omega (arith, c.requires.small)) c.args.text.now c.in-Ok.count c.requires.first c.in-Ok.ensures.value.0.0.0 c.in-Ok.ensures.value.0.1 c.if-count-most.true
 
 pub returns-else-count-most : goal.returns-else-count-most
 returns-else-count-most c = λ n count.

@@ -1,0 +1,3 @@
+pub mod JudgeLemmas
+pub mod NewestLemmas
+pub mod PlaceLemmas

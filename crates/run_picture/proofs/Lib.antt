@@ -1,0 +1,16 @@
+pub mod CutTexts
+pub mod Drawn
+pub mod EachOnce
+pub mod EscapeLaws
+pub mod Heights
+pub mod Lanes
+pub mod LineEnds
+pub mod Links
+pub mod Markup
+pub mod Nested
+pub mod Pages
+pub mod PlainValues
+pub mod Rows
+pub mod TagLines
+pub mod TagsAdded
+pub mod Windows

@@ -1,0 +1,12 @@
+pub mod Escape
+pub mod Figure
+pub mod Label
+pub mod Lane
+pub mod Layout
+pub mod Link
+pub mod Picture
+pub mod Scene
+pub mod Shown
+pub mod Style
+pub mod Tag
+pub mod Window
