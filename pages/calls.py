@@ -30,7 +30,8 @@ success is promised without a condition but those of its `requires`.
 INNER = {"apl_verbs", "apl_items", "operator_rules", "aux_parties", "apl_values", "apl_statements", "apl_subscripts", "apl_calls", "apl_answers",
          "apl_acts", "apl_meaning", "apl_terminal", "sv_rules", "sv_offer_laws", "sv_story_laws", "sv_delivery_laws", "sv_cell_laws", "sv_plain",
          "session_rules", "replay_rules", "party_turns", "journal_laws", "aplsv", "aplsv_rows"}
-ANSWERS = {"Finish": ("Status", "result.status"), "FinishedRun": ("Ended", "result.ended"), "RunOf": ("Ended", "result.ended"), "Status": ("Status", "result")}
+ANSWERS = {"Finish": ("Status", "result.status"), "FinishedRun": ("Ended", "result.ended"), "RunOf": ("Ended", "result.ended"), "Status": ("Status", "result"),
+           "LookStatus": ("LookStatus", "result")}
 MEMORY = "WantOfMemory"
 
 
@@ -86,7 +87,7 @@ def speaks_of(clause, variant, field, alone):
     """Whether a clause speaks of a variant of the answer, which may be the only one that is refused."""
     body = body_of(clause)
     if field:
-        return bool(re.search(rf"(?<!≢ status\.)\b(?:{variant}|HasCause|HasLoadCause|HasCheckCause)\b", body))
+        return bool(re.search(rf"(?<!≢ status\.)\b(?:{variant}|HasCause|HasLoadCause|HasCheckCause|HasLookCause)\b", body))
     if re.match(r"(IfOk|OnOk)\b", body):
         return False
     whole = re.match(r"(?!OnErr|IsOk|IsErr)[A-Z]\w*(?: [^ →]+)*? result\b", body)
@@ -114,7 +115,7 @@ def speaks_of_left(clause):
     body = body_of(clause)
     says = body if re.match(r"OnErr\b", body) else body.split("→")[-1]
     excepts = re.match(r"(IfOk|OnOk|IfWhole)\b", body) or re.search(rf"≢ status\.{MEMORY}\b", body) or clause[1] == "room"
-    return not excepts and bool(re.search(r"\.new\b|result\.(?:text|clock|shelves|devices)\b", says))
+    return not excepts and bool(re.search(r"\.new\b|result\.(?:text|clock|ten|twenty|shelves|devices)\b", says))
 
 
 def named(clauses):
